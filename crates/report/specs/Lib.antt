@@ -1,0 +1,9 @@
+pub mod Refusals
+pub mod Ports
+pub mod Sizes
+pub mod Reading
+pub mod SizesLaws
+pub mod ReadingLaws
+pub mod Radio
+pub mod RadioLaws
+pub mod TableLaws
