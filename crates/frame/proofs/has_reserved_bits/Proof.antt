@@ -1,0 +1,13 @@
+-- `frame::has_reserved_bits` meets its contract.
+use borrow.Author.Tests.{eq-eqb, ne-eqb}
+use Rattle.frame.proofs.has_reserved_bits.Statement.{statement}
+use Rattle.frame.proofs.has_reserved_bits.Tie as tie
+
+returns : tie.Need-returns
+returns c = simp (eq-eqb _ _ (c .if1 .taken))
+
+returns-2 : tie.Need-returns-2
+returns-2 c = simp (ne-eqb _ _ (c .if1 .left))
+
+pub has-reserved-bits-spec : {M : Type 1} → statement M
+has-reserved-bits-spec = tie.close (tie.spec returns returns-2)

@@ -1,0 +1,5 @@
+pub mod Requests
+pub mod Writing
+pub mod Heads
+pub mod FillLaws
+pub mod WritingLaws
