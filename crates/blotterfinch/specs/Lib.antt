@@ -1,0 +1,4 @@
+pub mod Reports
+pub mod Frames
+pub mod Movements
+pub mod FramesLaws
