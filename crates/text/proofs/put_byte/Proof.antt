@@ -1,0 +1,23 @@
+-- `text::put_byte` meets its contract.
+use Rattle.text.specs.PuttingLaws.{one-byte, past-end}
+use borrow.Author.Needs.{needs}
+use Rattle.text.proofs.put_byte.Statement.{statement}
+use Rattle.text.proofs.put_byte.Tie as tie
+
+slice-write-buffer : tie.Need-slice-write-buffer
+slice-write-buffer c = search needs
+
+add-result : tie.Need-add-result
+add-result c = search needs
+
+same-length : tie.Need-same-length
+same-length c = search needs
+
+returns : tie.Need-returns
+returns c = one-byte _ _ _ (c .if1 .taken)
+
+returns-2 : tie.Need-returns-2
+returns-2 c = past-end _ _ _ (c .if1 .left)
+
+pub put-byte-spec : {M : Type 1} → statement M
+put-byte-spec = tie.close (tie.spec slice-write-buffer add-result same-length returns returns-2)
