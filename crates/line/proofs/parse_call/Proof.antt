@@ -1,0 +1,35 @@
+-- `line::parse_call` meets its contract.
+use native.Mathlib.Omega.{arith}
+use Rattle.line.specs.LinesLaws.{retold, named}
+use borrow.Author.Needs.{needs}
+use Rattle.line.proofs.parse_call.Statement.{statement}
+use Rattle.line.proofs.parse_call.Tie as tie
+
+next-word-requires : tie.Need-next-word-requires
+next-word-requires c κs = search needs
+
+sub-named-call : tie.Need-sub-named-call
+sub-named-call c = omega (arith, c .next-word .ensures .ordered, c .next-word .ensures .within)
+
+part-named-call-start : tie.Need-part-named-call-start
+part-named-call-start c = omega (arith, c .next-word .ensures .ordered, c .next-word .ensures .within)
+
+part-named-call-end : tie.Need-part-named-call-end
+part-named-call-end c = omega (arith, c .next-word .ensures .ordered, c .next-word .ensures .within)
+
+named-call-requires : tie.Need-named-call-requires
+named-call-requires c κs = search needs
+
+returns : tie.Need-returns
+returns c = retold (c .named-call .ensures) (named (c .before .before .next-word .ensures))
+
+pub parse-call-spec : {M : Type 1} → statement M
+parse-call-spec =
+    tie.close
+    (tie.spec
+    next-word-requires
+    sub-named-call
+    part-named-call-start
+    part-named-call-end
+    named-call-requires
+    returns)

@@ -1,0 +1,339 @@
+// One line of a replay script: the call that it is.
+ghost use mathlib.Core.Path.{_≡_};
+ghost use mathlib.Core.List.{[]};
+ghost use Prim.Native.Nat.{_≤_};
+ghost use lib.ListN.{length, take, drop};
+ghost use Rattle.line.specs.Words.{words};
+ghost use Rattle.line.specs.Lines.{alone, withBytes, requestCall, cancelCall, switchCall, getPairedCall, ledCall, listCall, frameCall, called, table, otherRows, callOf, withoutReturn, lineRule};
+ghost use Rattle.line.specs.Meaning.{commandOf, meaning, Parses};
+use fields::NextByte;
+use fields::NextLent;
+use fields::NextNumber;
+use fields::NextTarget;
+use report::Device;
+use report::FeatureIndex;
+
+pub mod fields;
+pub mod values;
+pub mod words;
+
+const RETURN: u8 = 13;
+
+// What a line asks for. `room` is the length of the lent buffer; a report, a payload or parameters stand beside the command.
+pub enum Command {
+    Blank,
+    NoCall,
+    Take,
+    Request {
+        port: Device,
+        byte2: FeatureIndex,
+        byte3: u8,
+        ticks: u16,
+        place: u16,
+        room: u16,
+    },
+    Cancel {
+        port: Device,
+        byte2: FeatureIndex,
+        byte3: u8,
+    },
+    Tick,
+    Switch {
+        bits: u8,
+        timeout: u8,
+        place: u16,
+        room: u16,
+    },
+    GetPaired {
+        place: u16,
+        room: u16,
+    },
+    Led {
+        port: Device,
+        leds: u8,
+        place: u16,
+        room: u16,
+    },
+    List {
+        place: u16,
+        room: u16,
+    },
+    Read,
+    Frame {
+        port: Device,
+        byte2: FeatureIndex,
+        byte3: u8,
+        place: u16,
+        room: u16,
+    },
+    Mouse,
+    Dump,
+}
+
+// A command, and the first `count` bytes: its report, payload or parameters.
+pub struct Parsed {
+    pub command: Command,
+    pub bytes: [u8; 256],
+    pub count: usize,
+}
+
+// A command without bytes.
+fn bare(command: Command) -> Parsed
+    ensures { λ r. ⌜ Parses (commandOf command []) r ⌝ }
+{
+    let bytes = [0u8; 256];
+    Parsed {
+        command,
+        bytes,
+        count: 0,
+    }
+}
+
+// A command after which no word is left.
+fn alone_at(command: Command, line: &[u8], at: usize) -> Parsed
+    ensures { λ r. ⌜ Parses (alone (commandOf command []) (words (drop at (now (line .entry))))) r ⌝ }
+{
+    if words::is_end(line, at) {
+        return bare(command);
+    }
+    bare(Command::NoCall)
+}
+
+// A command after which all words are bytes.
+fn with_bytes(command: Command, line: &[u8], at: usize) -> Parsed
+    ensures { λ r. ⌜ Parses (withBytes (commandOf command) (words (drop at (now (line .entry))))) r ⌝ }
+{
+    let list = fields::bytes_left(line, at);
+    if list.whole {
+        let bytes = list.bytes;
+        return Parsed {
+            command,
+            bytes,
+            count: list.count,
+        };
+    }
+    bare(Command::NoCall)
+}
+
+fn request_call(line: &[u8], at: usize) -> Parsed
+    ensures { λ r. ⌜ Parses (requestCall (words (drop at (now (line .entry))))) r ⌝ }
+{
+    let NextTarget::Target {
+        port,
+        byte2,
+        byte3,
+        next,
+    } = fields::next_target(line, at)
+    else {
+        return bare(Command::NoCall);
+    };
+    let NextNumber::Number { value: ticks, next } = fields::next_number(line, next) else {
+        return bare(Command::NoCall);
+    };
+    let NextLent::Lent { place, room, next } = fields::next_lent(line, next) else {
+        return bare(Command::NoCall);
+    };
+    let command = Command::Request {
+        port,
+        byte2,
+        byte3,
+        ticks,
+        place,
+        room,
+    };
+    with_bytes(command, line, next)
+}
+
+fn cancel_call(line: &[u8], at: usize) -> Parsed
+    ensures { λ r. ⌜ Parses (cancelCall (words (drop at (now (line .entry))))) r ⌝ }
+{
+    let NextTarget::Target {
+        port,
+        byte2,
+        byte3,
+        next,
+    } = fields::next_target(line, at)
+    else {
+        return bare(Command::NoCall);
+    };
+    alone_at(Command::Cancel { port, byte2, byte3 }, line, next)
+}
+
+fn switch_call(line: &[u8], at: usize) -> Parsed
+    ensures { λ r. ⌜ Parses (switchCall (words (drop at (now (line .entry))))) r ⌝ }
+{
+    let NextByte::Byte { value: bits, next } = fields::next_byte(line, at) else {
+        return bare(Command::NoCall);
+    };
+    let NextByte::Byte {
+        value: timeout,
+        next,
+    } = fields::next_byte(line, next)
+    else {
+        return bare(Command::NoCall);
+    };
+    let NextLent::Lent { place, room, next } = fields::next_lent(line, next) else {
+        return bare(Command::NoCall);
+    };
+    let command = Command::Switch {
+        bits,
+        timeout,
+        place,
+        room,
+    };
+    alone_at(command, line, next)
+}
+
+fn get_paired_call(line: &[u8], at: usize) -> Parsed
+    ensures { λ r. ⌜ Parses (getPairedCall (words (drop at (now (line .entry))))) r ⌝ }
+{
+    let NextLent::Lent { place, room, next } = fields::next_lent(line, at) else {
+        return bare(Command::NoCall);
+    };
+    alone_at(Command::GetPaired { place, room }, line, next)
+}
+
+fn led_call(line: &[u8], at: usize) -> Parsed
+    ensures { λ r. ⌜ Parses (ledCall (words (drop at (now (line .entry))))) r ⌝ }
+{
+    let NextByte::Byte { value: port, next } = fields::next_port(line, at) else {
+        return bare(Command::NoCall);
+    };
+    let NextByte::Byte { value: leds, next } = fields::next_byte(line, next) else {
+        return bare(Command::NoCall);
+    };
+    let NextLent::Lent { place, room, next } = fields::next_lent(line, next) else {
+        return bare(Command::NoCall);
+    };
+    let command = Command::Led {
+        port: Device(port),
+        leds,
+        place,
+        room,
+    };
+    alone_at(command, line, next)
+}
+
+fn list_call(line: &[u8], at: usize) -> Parsed
+    ensures { λ r. ⌜ Parses (listCall (words (drop at (now (line .entry))))) r ⌝ }
+{
+    let NextLent::Lent { place, room, next } = fields::next_lent(line, at) else {
+        return bare(Command::NoCall);
+    };
+    alone_at(Command::List { place, room }, line, next)
+}
+
+fn frame_call(line: &[u8], at: usize) -> Parsed
+    ensures { λ r. ⌜ Parses (frameCall (words (drop at (now (line .entry))))) r ⌝ }
+{
+    let NextTarget::Target {
+        port,
+        byte2,
+        byte3,
+        next,
+    } = fields::next_target(line, at)
+    else {
+        return bare(Command::NoCall);
+    };
+    let NextLent::Lent { place, room, next } = fields::next_lent(line, next) else {
+        return bare(Command::NoCall);
+    };
+    let command = Command::Frame {
+        port,
+        byte2,
+        byte3,
+        place,
+        room,
+    };
+    with_bytes(command, line, next)
+}
+
+// The calls that need no station, and the dump.
+fn other_call(name: &[u8], line: &[u8], at: usize) -> Parsed
+    ensures { λ r. ⌜ Parses (called otherRows (now (name .entry)) (words (drop at (now (line .entry))))) r ⌝ }
+{
+    if words::is_word(name, b"read") {
+        return with_bytes(Command::Read, line, at);
+    }
+    if words::is_word(name, b"frame") {
+        return frame_call(line, at);
+    }
+    if words::is_word(name, b"mouse") {
+        return with_bytes(Command::Mouse, line, at);
+    }
+    if words::is_word(name, b"dump") {
+        return alone_at(Command::Dump, line, at);
+    }
+    bare(Command::NoCall)
+}
+
+// The call of this name, whose other words stand from `at` on.
+fn named_call(name: &[u8], line: &[u8], at: usize) -> Parsed
+    ensures { λ r. ⌜ Parses (called table (now (name .entry)) (words (drop at (now (line .entry))))) r ⌝ }
+{
+    if words::is_word(name, b"take") {
+        return with_bytes(Command::Take, line, at);
+    }
+    if words::is_word(name, b"request") {
+        return request_call(line, at);
+    }
+    if words::is_word(name, b"cancel") {
+        return cancel_call(line, at);
+    }
+    if words::is_word(name, b"tick") {
+        return alone_at(Command::Tick, line, at);
+    }
+    if words::is_word(name, b"switch") {
+        return switch_call(line, at);
+    }
+    if words::is_word(name, b"get-paired") {
+        return get_paired_call(line, at);
+    }
+    if words::is_word(name, b"led") {
+        return led_call(line, at);
+    }
+    if words::is_word(name, b"list") {
+        return list_call(line, at);
+    }
+    other_call(name, line, at)
+}
+
+fn parse_call(text: &[u8]) -> Parsed
+    ensures { λ r. ⌜ Parses (callOf (words (now (text .entry)))) r ⌝ }
+{
+    let word = words::next_word(text, 0);
+    let start = word.start;
+    let end = word.end;
+    named_call(&text[start..end], text, end)
+}
+
+// The end of a line without one carriage return.
+fn text_end(line: &[u8]) -> usize
+    ensures within { λ r. ⌜ r ≤ length (now (line .entry)) ⌝ }
+    ensures text { λ r. ⌜ take r (now (line .entry)) ≡ withoutReturn (now (line .entry)) ⌝ }
+{
+    let end = line.len();
+    if end == 0 {
+        return 0;
+    }
+    if line[end - 1] == RETURN {
+        return end - 1;
+    }
+    end
+}
+
+// Reads a line, which comes without its newline.
+pub fn parse_line(line: &[u8]) -> Parsed
+    ensures call { λ r. ⌜ meaning r ≡ lineRule (now (line .entry)) ⌝ }
+    ensures within { λ r. ⌜ r .count ≤ 256 ⌝ }
+{
+    let end = text_end(line);
+    let text = &line[..end];
+    if text.len() == 0 {
+        return bare(Command::Blank);
+    }
+    if text[0] == b'#' {
+        return bare(Command::Blank);
+    }
+    parse_call(text)
+}
