@@ -1,0 +1,60 @@
+-- `port::count_waiting` meets its contract: the loop has counted the first i places.
+use Prim.Native.Nat.{_-_}
+use mathlib.Core.Path.{sym, _∙_}
+use native.Mathlib.Omega.{arith}
+use borrow.Author.Needs.{needs}
+use mathlib.Core.Path.{_≡_, subst}
+use Rattle.port.specs.Records.{placeCount}
+use Rattle.port.specs.SumLaws.{Summed, sum-begun, sum-more, sum-done}
+use Rattle.port.specs.Places.{oneIfWaiting}
+use Rattle.port.proofs.count_waiting.Statement.{statement}
+use Rattle.port.proofs.count_waiting.Tie as tie
+
+abbrev Inv-loop : tie.InvT-loop
+Inv-loop places count₀ i₀ count i = Summed oneIfWaiting places count i
+
+abbrev μ-loop : tie.MeasureT-loop
+μ-loop places count₀ i₀ count i = placeCount - i
+
+loop-holds : tie.Need-loop-holds Inv-loop μ-loop
+loop-holds c = sum-begun _ _
+
+mul-request : tie.Need-mul-request Inv-loop μ-loop
+mul-request c = omega arith
+
+array-copy-out-request : tie.Need-array-copy-out-request Inv-loop μ-loop
+array-copy-out-request c = omega arith
+
+one-if-waiting-requires : tie.Need-one-if-waiting-requires Inv-loop μ-loop
+one-if-waiting-requires c κs = search needs
+
+add-count : tie.Need-add-count Inv-loop μ-loop
+add-count c = omega (arith, c .before .before .before .loop .inv .small, c .one-if-waiting .ensures .1)
+
+add-i : tie.Need-add-i Inv-loop μ-loop
+add-i c = omega arith
+
+loop-less : tie.Need-loop-less Inv-loop μ-loop
+loop-less c = omega arith
+
+loop-again : tie.Need-loop-again Inv-loop μ-loop
+loop-again c = sum-more _ _ _ (c .before .before .before .loop .inv) (omega (arith, c .before .before .before .before .good .0 .1 .0 .1)) (c .one-if-waiting .ensures .0) (c .one-if-waiting .ensures .1)
+
+returns : tie.Need-returns Inv-loop μ-loop
+returns c = sum-done _ (c .before .loop .inv) (omega (arith, c .before .before .good .0 .1 .0 .1))
+
+pub count-waiting-spec : {M : Type 1} → statement M
+count-waiting-spec =
+    tie.close
+    (tie.spec
+    Inv-loop
+    μ-loop
+    loop-holds
+    mul-request
+    array-copy-out-request
+    one-if-waiting-requires
+    add-count
+    add-i
+    loop-less
+    loop-again
+    returns)

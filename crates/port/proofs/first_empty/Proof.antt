@@ -1,0 +1,59 @@
+-- `port::first_empty` meets its contract: a loop that leaves at the first hit.
+use mathlib.Core.Path.{sym, _∙_}
+use Prim.Native.Nat.{_-_}
+use native.Mathlib.Omega.{arith}
+use borrow.Author.Needs.{needs}
+use Rattle.port.specs.Records.{placeCount}
+use Rattle.port.specs.PlacesLaws.{Searched, begun, hit, miss, none}
+use Rattle.port.specs.Places.{isEmpty}
+use Rattle.port.proofs.first_empty.Statement.{statement}
+use Rattle.port.proofs.first_empty.Tie as tie
+
+abbrev Inv-loop : tie.InvT-loop
+Inv-loop places i₀ i = Searched isEmpty places i
+
+abbrev μ-loop : tie.MeasureT-loop
+μ-loop places i₀ i = placeCount - i
+
+loop-holds : tie.Need-loop-holds Inv-loop μ-loop
+loop-holds c = begun _ _
+
+mul-request : tie.Need-mul-request Inv-loop μ-loop
+mul-request c = omega arith
+
+array-copy-out-request : tie.Need-array-copy-out-request Inv-loop μ-loop
+array-copy-out-request c = omega arith
+
+is-empty-requires : tie.Need-is-empty-requires Inv-loop μ-loop
+is-empty-requires c κs = search needs
+
+returns : tie.Need-returns Inv-loop μ-loop
+returns c = sym (hit _ _ _ (c .before .before .before .before .loop .inv) (omega (arith, c .before .before .before .before .before .good .0 .1 .0 .1)) (sym (c .before .is-empty .ensures) ∙ c .if1 .taken))
+
+add-i : tie.Need-add-i Inv-loop μ-loop
+add-i c = omega arith
+
+loop-less : tie.Need-loop-less Inv-loop μ-loop
+loop-less c = omega arith
+
+loop-again : tie.Need-loop-again Inv-loop μ-loop
+loop-again c = miss _ _ _ (c .before .before .before .before .loop .inv) (omega (arith, c .before .before .before .before .before .good .0 .1 .0 .1)) (sym (c .before .is-empty .ensures) ∙ c .if1 .left)
+
+returns-2 : tie.Need-returns-2 Inv-loop μ-loop
+returns-2 c = sym (none _ _ (c .before .loop .inv) (omega (arith, c .before .before .good .0 .1 .0 .1)) ∙ c .before .before .good .0 .1 .0 .1)
+
+pub first-empty-spec : {M : Type 1} → statement M
+first-empty-spec =
+    tie.close
+    (tie.spec
+    Inv-loop
+    μ-loop
+    loop-holds
+    mul-request
+    array-copy-out-request
+    is-empty-requires
+    returns
+    add-i
+    loop-less
+    loop-again
+    returns-2)

@@ -1,0 +1,23 @@
+-- `port::waiting::cancel` meets its contract.
+use Rattle.port.specs.Waiting.{cancelAt}
+use Rattle.port.specs.WaitingLaws.{is-found, not-found}
+use borrow.Author.Needs.{needs}
+use Rattle.port.proofs.waiting.cancel.Statement.{statement}
+use Rattle.port.proofs.waiting.cancel.Tie as tie
+
+first-match-requires : tie.Need-first-match-requires
+first-match-requires c κs = search needs
+
+end-at-requires : tie.Need-end-at-requires
+end-at-requires c κs = search needs
+
+returns : tie.Need-returns
+unfolding cancelAt
+returns c = simp (is-found (c .before .before .first-match .ensures) (c .before .if1 .taken), c .end-at .ensures, c .before .before .first-match .ensures)
+
+returns-2 : tie.Need-returns-2
+unfolding cancelAt
+returns-2 c = simp (not-found (c .before .first-match .ensures) (c .if1 .left))
+
+pub cancel-spec : {M : Type 1} → statement M
+cancel-spec = tie.close (tie.spec first-match-requires end-at-requires returns returns-2)

@@ -1,0 +1,10 @@
+pub mod Records
+pub mod Places
+pub mod PlacesLaws
+pub mod Ticks
+pub mod MapLaws
+pub mod SumLaws
+pub mod TicksLaws
+pub mod Answers
+pub mod Waiting
+pub mod WaitingLaws

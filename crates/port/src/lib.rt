@@ -1,0 +1,309 @@
+// What one port holds, and its places for waiting requests.
+ghost use mathlib.Core.Path.{_≡_};
+ghost use Prim.Native.Nat.{_≤_};
+ghost use lib.ListN.{set};
+ghost use Rattle.port.specs.Records.{freshPort, emptyPlace, requestAt, featureAt, withVersion, withBattery, withFeatures, withPlaces, withLink};
+ghost use Rattle.port.specs.Places.{matches, firstAt, isEmpty, oneIfWaiting, countWaiting};
+ghost use Rattle.port.specs.Ticks.{afterTick, oneIfEnding, tickRule};
+
+pub mod answer;
+pub mod waiting;
+
+use report::FeatureIndex;
+
+// Places for waiting requests on a port.
+pub const PLACES: usize = 4;
+
+// Known features.
+pub const FEATURES: usize = 5;
+
+// Ports of a station: devices 1 to 6, and the receiver.
+pub const PORTS: usize = 7;
+
+// The first three parameters of a request or of a report.
+pub struct Three(pub u8, pub u8, pub u8);
+
+// One pending request. Document 01: a place. It is empty where no ticks are left.
+pub struct Request {
+    pub byte2: FeatureIndex,
+    pub byte3: u8,
+    pub first: Three,
+    pub ticks: u8,
+}
+
+pub enum Version {
+    Unknown,
+    // Major, minor.
+    Known(u8, u8),
+}
+
+pub enum Battery {
+    Unknown,
+    // Level, next, status.
+    Known(u8, u8, u8),
+}
+
+// The record of one device, or of the receiver.
+pub struct Port {
+    pub paired: bool,
+    pub wpid: u16,
+    // Bit t: the device sends radio reports of type t.
+    pub reports: u32,
+    pub up: bool,
+    pub version: Version,
+    // The index found for each known feature, 0 where not found.
+    pub features: [FeatureIndex; FEATURES],
+    pub battery: Battery,
+    pub places: [Request; PLACES],
+}
+
+pub fn empty_place() -> Request
+    ensures { λ r. ⌜ r ≡ emptyPlace ⌝ }
+{
+    Request {
+        byte2: FeatureIndex(0),
+        byte3: 0,
+        first: Three(0, 0, 0),
+        ticks: 0,
+    }
+}
+
+pub fn fresh() -> Port
+    ensures { λ r. ⌜ r ≡ freshPort ⌝ }
+{
+    let none = FeatureIndex(0);
+    let empty = empty_place();
+    Port {
+        paired: false,
+        wpid: 0,
+        reports: 0,
+        up: false,
+        version: Version::Unknown,
+        features: [none; FEATURES],
+        battery: Battery::Unknown,
+        places: [empty; PLACES],
+    }
+}
+
+// Whether a request with these bytes 2 and 3 waits in the place.
+fn is_match(request: Request, byte2: FeatureIndex, byte3: u8) -> bool
+    ensures { λ r. ⌜ r ≡ matches (byte2 .0) byte3 request ⌝ }
+{
+    if request.ticks == 0 {
+        return false;
+    }
+    if request.byte2.0 == byte2.0 {
+        return request.byte3 == byte3;
+    }
+    false
+}
+
+// The lowest place where a request with these bytes 2 and 3 waits, or PLACES.
+pub fn first_match(places: [Request; PLACES], byte2: FeatureIndex, byte3: u8) -> usize
+    ensures { λ r. ⌜ r ≡ firstAt (matches (byte2 .0) byte3) places ⌝ }
+{
+    let mut i = 0;
+    while i < PLACES {
+        let request = places[i];
+        if is_match(request, byte2, byte3) {
+            return i;
+        }
+        i += 1;
+    }
+    PLACES
+}
+
+fn is_empty(request: Request) -> bool
+    ensures { λ r. ⌜ r ≡ isEmpty request ⌝ }
+{
+    request.ticks == 0
+}
+
+// The lowest empty place, or PLACES.
+pub fn first_empty(places: [Request; PLACES]) -> usize
+    ensures { λ r. ⌜ r ≡ firstAt isEmpty places ⌝ }
+{
+    let mut i = 0;
+    while i < PLACES {
+        let request = places[i];
+        if is_empty(request) {
+            return i;
+        }
+        i += 1;
+    }
+    PLACES
+}
+
+// How many requests wait.
+pub fn count_waiting(places: [Request; PLACES]) -> u8
+    ensures { λ r. ⌜ r ≡ countWaiting places ⌝ }
+{
+    let mut count: u8 = 0;
+    let mut i = 0;
+    while i < PLACES {
+        let request = places[i];
+        count = count + one_if_waiting(request);
+        i += 1;
+    }
+    count
+}
+
+fn one_if_waiting(request: Request) -> u8
+    ensures counted { λ r. ⌜ r ≡ oneIfWaiting request ⌝ }
+    ensures one { λ r. ⌜ r ≤ 1 ⌝ }
+{
+    if request.ticks == 0 {
+        return 0;
+    }
+    1
+}
+
+// The places after one tick, and how many requests it ended.
+pub struct Ticked {
+    pub places: [Request; PLACES],
+    pub ended: u8,
+}
+
+// One place after one tick: the count lowered, and the place emptied where it reaches 0.
+fn lowered(request: Request) -> Request
+    ensures { λ r. ⌜ r ≡ afterTick request ⌝ }
+{
+    let ticks = request.ticks;
+    if ticks <= 1 {
+        return empty_place();
+    }
+    let mut next = request;
+    next.ticks = ticks - 1;
+    next
+}
+
+fn one_if_ending(request: Request) -> u8
+    ensures counted { λ r. ⌜ r ≡ oneIfEnding request ⌝ }
+    ensures one { λ r. ⌜ r ≤ 1 ⌝ }
+{
+    if request.ticks == 1 {
+        return 1;
+    }
+    0
+}
+
+pub fn tick(places: [Request; PLACES]) -> Ticked
+    ensures { λ r. ⌜ r ≡ tickRule places ⌝ }
+{
+    let mut next = places;
+    let mut ended: u8 = 0;
+    let mut i = 0;
+    while i < PLACES {
+        let request = places[i];
+        ended = ended + one_if_ending(request);
+        next[i] = lowered(request);
+        i += 1;
+    }
+    Ticked {
+        places: next,
+        ended,
+    }
+}
+
+// The request in a place, or an empty one past the last.
+pub fn request_at(places: [Request; PLACES], at: usize) -> Request
+    ensures { λ r. ⌜ r ≡ requestAt places at ⌝ }
+{
+    if at < PLACES {
+        return places[at];
+    }
+    empty_place()
+}
+
+// The places with this request in one of them; past the last nothing changes.
+pub fn with_request(places: [Request; PLACES], at: usize, request: Request) -> [Request; PLACES]
+    ensures { λ r. ⌜ r ≡ set places at request ⌝ }
+{
+    let mut next = places;
+    if at < PLACES {
+        next[at] = request;
+    }
+    next
+}
+
+// The index held for a known feature; 0 past the last.
+pub fn feature_at(features: [FeatureIndex; FEATURES], at: usize) -> FeatureIndex
+    ensures { λ r. ⌜ r .0 ≡ featureAt features at ⌝ }
+{
+    if at < FEATURES {
+        return features[at];
+    }
+    FeatureIndex(0)
+}
+
+// The features with this index for one of them; past the last nothing changes.
+pub fn with_feature(
+    features: [FeatureIndex; FEATURES],
+    at: usize,
+    index: FeatureIndex,
+) -> [FeatureIndex; FEATURES]
+    ensures { λ r. ⌜ r ≡ set features at index ⌝ }
+{
+    let mut next = features;
+    if at < FEATURES {
+        next[at] = index;
+    }
+    next
+}
+
+pub fn with_version(port: Port, version: Version) -> Port
+    ensures { λ r. ⌜ r ≡ withVersion port version ⌝ }
+{
+    let features = port.features;
+    let battery = port.battery;
+    let places = port.places;
+    Port {
+        paired: port.paired,
+        wpid: port.wpid,
+        reports: port.reports,
+        up: port.up,
+        version,
+        features,
+        battery,
+        places,
+    }
+}
+
+pub fn with_battery(port: Port, battery: Battery) -> Port
+    ensures { λ r. ⌜ r ≡ withBattery port battery ⌝ }
+{
+    let version = port.version;
+    let features = port.features;
+    let places = port.places;
+    Port {
+        paired: port.paired,
+        wpid: port.wpid,
+        reports: port.reports,
+        up: port.up,
+        version,
+        features,
+        battery,
+        places,
+    }
+}
+
+pub fn with_features(mut port: Port, features: [FeatureIndex; FEATURES]) -> Port
+    ensures { λ r. ⌜ r ≡ withFeatures port features ⌝ }
+{
+    port.features = features;
+    port
+}
+
+pub fn with_places(mut port: Port, places: [Request; PLACES]) -> Port
+    ensures { λ r. ⌜ r ≡ withPlaces port places ⌝ }
+{
+    port.places = places;
+    port
+}
+
+pub fn with_link(mut port: Port, up: bool) -> Port
+    ensures { λ r. ⌜ r ≡ withLink port up ⌝ }
+{
+    port.up = up;
+    port
+}
