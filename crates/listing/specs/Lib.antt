@@ -1,0 +1,5 @@
+pub mod Listing
+pub mod ShortLaws
+pub mod LinesLaws
+pub mod WriteLaws
+pub mod Examples
