@@ -1,0 +1,18 @@
+-- `hidpp::is_event_0` meets its contract.
+use mathlib.Core.Path.{sym, _∙_}
+use borrow.Author.Tests.{eq-eqb, ne-eqb, le-leb, lt-leb, lt-ltb, le-ltb, not-true, not-false}
+use borrow.Author.Needs.{needs}
+use Rattle.hidpp.proofs.is_event_0.Statement.{statement}
+use Rattle.hidpp.proofs.is_event_0.Tie as tie
+
+is-held-requires : tie.Need-is-held-requires
+is-held-requires c κs = search needs
+
+returns : tie.Need-returns
+returns c = simp (sym (c .before .before .is-held .ensures) ∙ c .before .if1 .taken)
+
+returns-2 : tie.Need-returns-2
+returns-2 c = simp (sym (c .before .is-held .ensures) ∙ c .if1 .left)
+
+pub is-event-0-spec : {M : Type 1} → statement M
+is-event-0-spec = tie.close (tie.spec is-held-requires returns returns-2)

@@ -1,0 +1,21 @@
+-- `hidpp::is_major_1` meets its contract.
+use mathlib.Core.Path.{sym, _∙_}
+use borrow.Author.Tests.{eq-eqb, ne-eqb, le-leb, lt-leb, lt-ltb, le-ltb, not-true, not-false}
+use borrow.Author.Needs.{needs}
+use Rattle.hidpp.proofs.is_major_1.Statement.{statement}
+use Rattle.hidpp.proofs.is_major_1.Tie as tie
+
+enum-told : tie.Need-enum-told
+enum-told c = search needs
+
+enum-known-version : tie.Need-enum-known-version
+enum-known-version c = search needs
+
+returns : tie.Need-returns
+returns c = search needs
+
+returns-2 : tie.Need-returns-2
+returns-2 c = simp (c .before .version .given .1)
+
+pub is-major-1-spec : {M : Type 1} → statement M
+is-major-1-spec = tie.close (tie.spec enum-told enum-known-version returns returns-2)

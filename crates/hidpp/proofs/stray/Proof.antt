@@ -1,0 +1,17 @@
+-- `hidpp::stray` meets its contract.
+use mathlib.Core.Path.{sym, _∙_}
+use borrow.Author.Tests.{eq-eqb, ne-eqb, le-leb, lt-leb, lt-ltb, le-ltb, not-true, not-false}
+use Rattle.hidpp.specs.Taking.{aboutOf}
+use borrow.Author.Needs.{needs}
+use Rattle.hidpp.proofs.stray.Statement.{statement}
+use Rattle.hidpp.proofs.stray.Tie as tie
+
+about-requires : tie.Need-about-requires
+about-requires c κs = search needs
+
+returns : tie.Need-returns
+unfolding aboutOf
+returns c = simp (c .about .ensures)
+
+pub stray-spec : {M : Type 1} → statement M
+stray-spec = tie.close (tie.spec about-requires returns)
