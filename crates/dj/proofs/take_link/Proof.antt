@@ -1,0 +1,21 @@
+-- `dj::take_link` meets its contract.
+use mathlib.Core.Path.{sym, _∙_}
+use borrow.Author.Tests.{eq-eqb, ne-eqb, le-leb, lt-leb, lt-ltb, le-ltb, not-true, not-false}
+use Rattle.dj.specs.Taking.{linkRule}
+use borrow.Author.Needs.{needs}
+use Rattle.dj.proofs.take_link.Statement.{statement}
+use Rattle.dj.proofs.take_link.Tie as tie
+
+with-link-requires : tie.Need-with-link-requires
+with-link-requires c κs = search needs
+
+returns : tie.Need-returns
+unfolding linkRule
+returns c = simp (c .before .if1 .taken, c .with-link .ensures)
+
+returns-2 : tie.Need-returns-2
+unfolding linkRule
+returns-2 c = simp (c .if1 .left)
+
+pub take-link-spec : {M : Type 1} → statement M
+take-link-spec = tie.close (tie.spec with-link-requires returns returns-2)
