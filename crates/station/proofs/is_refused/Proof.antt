@@ -1,0 +1,24 @@
+-- `station::is_refused` meets its contract.
+use mathlib.Core.Path.{sym, _∙_}
+use borrow.Author.Tests.{le-leb, lt-leb, not-true, not-false}
+use borrow.Author.Needs.{needs}
+use Rattle.station.proofs.is_refused.Statement.{statement}
+use Rattle.station.proofs.is_refused.Tie as tie
+
+is-forbidden-requires : tie.Need-is-forbidden-requires
+is-forbidden-requires c κs = search needs
+
+returns : tie.Need-returns
+returns c = simp (sym (c .before .is-forbidden .ensures) ∙ c .if1 .taken)
+
+returns-2 : tie.Need-returns-2
+returns-2 c = simp (sym (c .before .before .before .is-forbidden .ensures) ∙ c .before .before .if1 .left, le-leb _ _ (c .before .if2 .taken), le-leb _ _ (c .if3 .taken))
+
+returns-3 : tie.Need-returns-3
+returns-3 c = simp (sym (c .before .before .before .is-forbidden .ensures) ∙ c .before .before .if1 .left, le-leb _ _ (c .before .if2 .taken), lt-leb _ _ (c .if3 .left))
+
+returns-4 : tie.Need-returns-4
+returns-4 c = simp (sym (c .before .before .is-forbidden .ensures) ∙ c .before .if1 .left, lt-leb _ _ (c .if2 .left))
+
+pub is-refused-spec : {M : Type 1} → statement M
+is-refused-spec = tie.close (tie.spec is-forbidden-requires returns returns-2 returns-3 returns-4)
