@@ -1,0 +1,14 @@
+pub mod Blocks
+pub mod Decoding
+pub mod Encoding
+pub mod Rows
+pub mod Scripts
+pub mod Promises
+pub mod DecodingLaws
+pub mod EncodingLaws
+pub mod RowsLaws
+pub mod ScriptsLaws
+pub mod CallsLaws
+pub mod CheckLaws
+pub mod RunLaws
+pub mod Demand3
