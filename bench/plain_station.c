@@ -1,0 +1,409 @@
+#include "plain_station.h"
+
+#include <string.h>
+
+#include "../tests/c/plain.h"
+
+enum { HIDPP_SHORT = 0x10, HIDPP_LONG = 0x11 };
+enum { HIDPP_HEAD = 4, DJ_HEAD = 3, SHORT_PARAMETERS = 3 };
+enum { ERROR_1 = 0x8F, ERROR_2 = 0xFF };
+enum { FEATURE_INDEX_END = 0x40, SUB_ID_REGISTERS = 0x80 };
+enum { GET_FEATURE = 0, PING = 1 };
+enum { INVALID_SUB_ID = 1 };
+enum { MAX_INDEX = 63, MAX_LEVEL = 100 };
+enum { BATTERY = 3, WIRELESS_STATUS = 4 };
+enum { DEVICE_UNPAIRED = 0x40, DEVICE_PAIRED = 0x41, CONNECTION_STATUS = 0x42 };
+enum { RADIO_TYPES = 32 };
+enum { LONGEST_LISTING = 305 };
+
+/* Port 255 is the last. */
+static struct plain_port *port_of(struct plain_station *station, uint8_t device)
+{
+    return &station->ports[device <= PLAIN_DEVICES ? device - 1 : PLAIN_DEVICES];
+}
+
+static struct plain_request *waiting(struct plain_port *port, uint8_t byte2, uint8_t byte3)
+{
+    for (int i = 0; i < PLAIN_PLACES; i++) {
+        struct plain_request *place = &port->places[i];
+
+        if (place->ticks != 0 && place->byte2 == byte2 && place->byte3 == byte3)
+            return place;
+    }
+    return NULL;
+}
+
+static uint8_t count_waiting(const struct plain_port *port)
+{
+    uint8_t count = 0;
+
+    for (int i = 0; i < PLAIN_PLACES; i++)
+        count += port->places[i].ticks != 0;
+    return count;
+}
+
+/* The place of a known feature, or PLAIN_FEATURES. */
+static int feature_place(uint8_t high, uint8_t low)
+{
+    switch (high << 8 | low) {
+    case 0x0001: return 0;
+    case 0x0003: return 1;
+    case 0x0005: return 2;
+    case 0x1000: return BATTERY;
+    case 0x1D4B: return WIRELESS_STATUS;
+    default: return PLAIN_FEATURES;
+    }
+}
+
+static bool holds(const struct plain_port *port, int feature, uint8_t index)
+{
+    return port->features[feature] != 0 && port->features[feature] == index;
+}
+
+static void set_version(struct plain_port *port, uint8_t major, uint8_t minor)
+{
+    port->version_known = true;
+    port->major = major;
+    port->minor = minor;
+}
+
+static void set_battery(struct plain_port *port, const uint8_t *parameters)
+{
+    if (parameters[0] > MAX_LEVEL || parameters[1] > MAX_LEVEL)
+        return;
+    port->battery_known = true;
+    port->level = parameters[0];
+    port->next = parameters[1];
+    port->status = parameters[2];
+}
+
+/* The request is still in its place. */
+static void learn_reply(struct plain_port *port, const struct plain_request *request,
+                        const uint8_t *bytes)
+{
+    uint8_t function = bytes[3] >> 4;
+
+    if (bytes[2] == 0 && function == PING) {
+        set_version(port, bytes[4], bytes[5]);
+    } else if (bytes[2] == 0 && function == GET_FEATURE) {
+        int feature = feature_place(request->first[0], request->first[1]);
+
+        if (feature < PLAIN_FEATURES)
+            port->features[feature] = bytes[4] <= MAX_INDEX ? bytes[4] : 0;
+    } else if (function == 0 && holds(port, BATTERY, bytes[2])) {
+        set_battery(port, bytes + 4);
+    }
+}
+
+static void learn_event(struct plain_port *port, const uint8_t *bytes)
+{
+    if (bytes[3] != 0)
+        return;
+    if (holds(port, BATTERY, bytes[2]))
+        set_battery(port, bytes + 4);
+    if (holds(port, WIRELESS_STATUS, bytes[2]))
+        port->up = true;
+}
+
+static void end_request(struct plain_request *request)
+{
+    memset(request, 0, sizeof *request);
+}
+
+static enum plain_kind take_error(struct plain_port *port, const uint8_t *bytes,
+                                  struct plain_answer *answer)
+{
+    struct plain_request *request = NULL;
+
+    if (bytes[2] == ERROR_1 || bytes[3] < FEATURE_INDEX_END)
+        request = waiting(port, bytes[3], bytes[4]);
+    if (request == NULL)
+        return PLAIN_STRAY;
+    end_request(request);
+    if (bytes[2] == ERROR_1 && bytes[5] == INVALID_SUB_ID && bytes[3] == 0 && bytes[4] >> 4 == PING)
+        set_version(port, 1, 0);
+    answer->byte2 = bytes[3];
+    answer->byte3 = bytes[4];
+    answer->code = bytes[5];
+    answer->error = bytes[2];
+    return PLAIN_FAILED;
+}
+
+static enum plain_kind take_hidpp(struct plain_port *port, const uint8_t *bytes,
+                                  struct plain_answer *answer)
+{
+    struct plain_request *request;
+
+    if (bytes[2] == ERROR_1 || bytes[2] == ERROR_2)
+        return take_error(port, bytes, answer);
+    request = waiting(port, bytes[2], bytes[3]);
+    if (request != NULL) {
+        learn_reply(port, request, bytes);
+        end_request(request);
+        return PLAIN_REPLY;
+    }
+    if (bytes[2] >= SUB_ID_REGISTERS)
+        return PLAIN_STRAY;
+    if (bytes[2] >= FEATURE_INDEX_END)
+        return PLAIN_PLAIN;
+    if (port->version_known && port->major == 1)
+        return PLAIN_PLAIN;
+    if ((bytes[3] & 0x0F) != 0)
+        return PLAIN_STRAY;
+    learn_event(port, bytes);
+    return PLAIN_EVENT;
+}
+
+static void refuse(struct plain_answer *answer, uint8_t refusal)
+{
+    answer->kind = PLAIN_REFUSED;
+    answer->refusal = refusal;
+}
+
+static const uint8_t payload_lengths[RADIO_TYPES] = {[1] = 7, [2] = 7, [3] = 4, [4] = 1, [8] = 1, [14] = 1};
+
+static void take_radio(struct plain_port *port, const uint8_t *bytes, size_t length,
+                       struct plain_answer *answer)
+{
+    uint8_t type = bytes[2];
+
+    if (!port->paired) {
+        refuse(answer, PLAIN_NOT_PAIRED);
+        return;
+    }
+    if (type >= RADIO_TYPES || (port->reports >> type & 1) == 0) {
+        refuse(answer, PLAIN_NOT_DECLARED);
+        return;
+    }
+    port->up = true;
+    answer->kind = PLAIN_RADIO;
+    answer->type = type;
+    answer->start = DJ_HEAD;
+    answer->length = payload_lengths[type] != 0 ? payload_lengths[type] : (uint8_t)(length - DJ_HEAD);
+}
+
+static void take_paired(struct plain_port *port, const uint8_t *bytes, struct plain_answer *answer)
+{
+    uint16_t wpid = (uint16_t)(bytes[4] | bytes[5] << 8);
+    uint32_t reports = bytes[6] | (uint32_t)bytes[7] << 8 | (uint32_t)bytes[8] << 16 | (uint32_t)bytes[9] << 24;
+
+    answer->kind = PLAIN_PAIRED;
+    answer->dropped = 0;
+    if (!port->paired || port->wpid != wpid) {
+        answer->dropped = count_waiting(port);
+        memset(port, 0, sizeof *port);
+        port->paired = true;
+        port->wpid = wpid;
+    }
+    port->reports = reports;
+    answer->more = bytes[3] & 1;
+    answer->wpid = wpid;
+    answer->reports = reports;
+}
+
+static void take_notification(struct plain_port *port, const uint8_t *bytes,
+                              struct plain_answer *answer)
+{
+    switch (bytes[2]) {
+    case DEVICE_UNPAIRED:
+        answer->kind = PLAIN_UNPAIRED;
+        answer->dropped = count_waiting(port);
+        memset(port, 0, sizeof *port);
+        break;
+    case DEVICE_PAIRED:
+        take_paired(port, bytes, answer);
+        break;
+    case CONNECTION_STATUS:
+        if (!port->paired) {
+            refuse(answer, PLAIN_NOT_PAIRED);
+            break;
+        }
+        answer->kind = PLAIN_LINK;
+        answer->up = port->up = (bytes[3] & 1) == 0;
+        break;
+    default:
+        answer->kind = PLAIN_OTHER;
+        answer->type = bytes[2];
+        break;
+    }
+}
+
+void plain_fresh(struct plain_station *station)
+{
+    memset(station, 0, sizeof *station);
+}
+
+void plain_take(struct plain_station *station, const uint8_t *bytes, size_t length,
+                struct plain_answer *answer)
+{
+    uint8_t refusal = plain_refusal(bytes, length);
+
+    if (refusal != BLOTTERFINCH_ACCEPTED) {
+        refuse(answer, refusal);
+        return;
+    }
+    answer->port = bytes[1];
+    if (bytes[0] == HIDPP_SHORT || bytes[0] == HIDPP_LONG) {
+        answer->byte2 = bytes[2];
+        answer->byte3 = bytes[3];
+        answer->start = HIDPP_HEAD;
+        answer->length = (uint8_t)(length - HIDPP_HEAD);
+        answer->kind = take_hidpp(port_of(station, bytes[1]), bytes, answer);
+    } else if (bytes[2] < DEVICE_UNPAIRED) {
+        take_radio(port_of(station, bytes[1]), bytes, length, answer);
+    } else if (bytes[2] == DEVICE_PAIRED && (bytes[3] & 2) != 0) {
+        answer->kind = PLAIN_EMPTY_LIST;
+    } else {
+        take_notification(port_of(station, bytes[1]), bytes, answer);
+    }
+}
+
+static struct plain_request *empty_place(struct plain_port *port)
+{
+    for (int i = 0; i < PLAIN_PLACES; i++)
+        if (port->places[i].ticks == 0)
+            return &port->places[i];
+    return NULL;
+}
+
+uint8_t plain_request(struct plain_station *station, uint8_t device, uint8_t byte2, uint8_t byte3,
+                      uint16_t ticks, const uint8_t *parameters, size_t parameters_length,
+                      uint8_t *buffer, size_t buffer_length, size_t place, size_t *written)
+{
+    struct plain_port *port;
+    struct plain_request *request;
+    size_t length = HIDPP_HEAD + parameters_length;
+
+    if (!plain_is_port(device))
+        return BLOTTERFINCH_NO_SUCH_PORT;
+    if (plain_is_forbidden(byte2, byte3, parameters, parameters_length) || ticks < 1 || ticks > 255)
+        return BLOTTERFINCH_FORBIDDEN;
+    if (place > buffer_length || length > buffer_length - place)
+        return BLOTTERFINCH_NO_ROOM;
+    port = port_of(station, device);
+    if (waiting(port, byte2, byte3) != NULL)
+        return PLAIN_ALREADY_WAITING;
+    request = empty_place(port);
+    if (request == NULL)
+        return PLAIN_PLACES_FULL;
+
+    request->byte2 = byte2;
+    request->byte3 = byte3;
+    memcpy(request->first, parameters, sizeof request->first);
+    request->ticks = (uint8_t)ticks;
+
+    buffer += place;
+    buffer[0] = parameters_length == SHORT_PARAMETERS ? HIDPP_SHORT : HIDPP_LONG;
+    buffer[1] = device;
+    buffer[2] = byte2;
+    buffer[3] = byte3;
+    memcpy(buffer + HIDPP_HEAD, parameters, parameters_length);
+    *written = length;
+    return BLOTTERFINCH_ACCEPTED;
+}
+
+uint8_t plain_cancel(struct plain_station *station, uint8_t device, uint8_t byte2, uint8_t byte3)
+{
+    struct plain_request *request;
+
+    if (!plain_is_port(device))
+        return BLOTTERFINCH_NO_SUCH_PORT;
+    request = waiting(port_of(station, device), byte2, byte3);
+    if (request == NULL)
+        return PLAIN_NOT_WAITING;
+    end_request(request);
+    return BLOTTERFINCH_ACCEPTED;
+}
+
+void plain_tick(struct plain_station *station, uint8_t ended[PLAIN_PORTS])
+{
+    for (int i = 0; i < PLAIN_PORTS; i++) {
+        ended[i] = 0;
+        for (int j = 0; j < PLAIN_PLACES; j++) {
+            struct plain_request *request = &station->ports[i].places[j];
+
+            if (request->ticks > 1) {
+                request->ticks--;
+            } else if (request->ticks == 1) {
+                end_request(request);
+                ended[i]++;
+            }
+        }
+    }
+}
+
+static char *put_text(char *at, const char *text)
+{
+    size_t length = strlen(text);
+
+    memcpy(at, text, length);
+    return at + length;
+}
+
+static char *put_hex(char *at, int digits, uint32_t number)
+{
+    for (int i = digits - 1; i >= 0; i--) {
+        at[i] = "0123456789ABCDEF"[number & 0x0F];
+        number >>= 4;
+    }
+    return at + digits;
+}
+
+static char *put_decimal(char *at, uint8_t number)
+{
+    if (number >= 100)
+        *at++ = (char)('0' + number / 100);
+    if (number >= 10)
+        *at++ = (char)('0' + number / 10 % 10);
+    *at++ = (char)('0' + number % 10);
+    return at;
+}
+
+static char *put_line(char *at, int device, const struct plain_port *port)
+{
+    at = put_decimal(at, (uint8_t)device);
+    *at++ = '\t';
+    at = put_hex(at, 4, port->wpid);
+    *at++ = '\t';
+    at = put_hex(at, 8, port->reports);
+    at = put_text(at, port->up ? "\tup\t" : "\tdown\t");
+    if (port->version_known) {
+        at = put_decimal(at, port->major);
+        *at++ = '.';
+        at = put_decimal(at, port->minor);
+    } else {
+        *at++ = '-';
+    }
+    *at++ = '\t';
+    if (port->battery_known) {
+        at = put_decimal(at, port->level);
+        *at++ = ',';
+        at = put_decimal(at, port->next);
+        *at++ = ',';
+        at = put_decimal(at, port->status);
+    } else {
+        *at++ = '-';
+    }
+    *at++ = '\t';
+    at = put_decimal(at, count_waiting(port));
+    *at++ = '\n';
+    return at;
+}
+
+uint8_t plain_list(const struct plain_station *station, uint8_t *buffer, size_t buffer_length,
+                   size_t place, size_t *written)
+{
+    char text[LONGEST_LISTING];
+    char *at = put_text(text, "port\twpid\treports\tlink\tversion\tbattery\twaiting\n");
+    size_t length;
+
+    for (int i = 0; i < PLAIN_DEVICES; i++)
+        if (station->ports[i].paired)
+            at = put_line(at, i + 1, &station->ports[i]);
+    length = (size_t)(at - text);
+    if (place > buffer_length || length > buffer_length - place)
+        return BLOTTERFINCH_NO_ROOM;
+    memcpy(buffer + place, text, length);
+    *written = length;
+    return BLOTTERFINCH_ACCEPTED;
+}

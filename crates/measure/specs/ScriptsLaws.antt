@@ -1,0 +1,79 @@
+-- Laws of the script: what each turn of the loop gives is what the rules give.
+use Prim.Native.Nat.{ℕ, suc, _+_, _*_, _^_, _≤_, _<_}
+use Prim.Native.Nat.{_-_, _%_, _/_}
+use mathlib.Core.Path.{_≡_, refl, sym, _∙_, ap}
+use mathlib.Core.List.{List}
+use native.Mathlib.Omega.{arith}
+use native.Mathlib.Numerals.{add-one}
+use lib.ListN.{length, take, drop}
+use borrow.Author.Tests.{ne-eqb}
+use Rattle.report.specs.Sizes.{byte}
+use Rattle.frame.specs.declared.Written.{Written}
+use Rattle.frame.specs.Writing as writing
+use Rattle.port.specs.Answers.{meaning}
+use Rattle.port.specs.Waiting.{cancelOf}
+use Rattle.listing.specs.Listing.{listingRule}
+use Rattle.station.specs.declared.Station.{Station}
+use Rattle.station.specs.declared.TakeResult.{TakeResult}
+use Rattle.station.specs.declared.RequestResult.{RequestResult}
+use Rattle.station.specs.declared.CancelResult.{CancelResult}
+use Rattle.station.specs.declared.TickResult.{TickResult}
+use Rattle.station.specs.Stations.{freshStation}
+use Rattle.station.specs.Promises.{TakePromise, RequestPromise, CancelPromise, TickPromise, ListPromise}
+use Rattle.measure.specs.Weights.{takeWeight, writeWeight, cancelWeight, tickWeight}
+use Rattle.measure.specs.Scripts.{slotSize, lentStart, field, lentAt, Course, added, afterTake, afterRequest, afterCancel, afterTick, afterList, called, after, told, measured, measuredBy}
+
+abbrev pub course : ℕ → Station → List ℕ → Course
+course sum s lent = record { sum = sum; station = s; lent = lent }
+
+-- the part of the script that a call lends
+pub lent-part : (script : List ℕ) (at : ℕ) → take ((at + lentStart + field script at 1 % 64) - (at + lentStart)) (drop (at + lentStart) script) ≡ lentAt script at
+lent-part script at =
+    let e : (at + lentStart + field script at 1 % 64) - (at + lentStart) ≡ field script at 1 % 64 = omega arith in
+    ap (λ (n : ℕ). take n (drop (at + lentStart) script)) e
+
+-- one turn, by the kind of its call
+module _ (script : List ℕ) (sum : ℕ) (s : Station) (lent : List ℕ) (at : ℕ) {next w : ℕ} (a : next ≡ added sum w) where
+  pub take-turn : (t : TakeResult) {bytes : List ℕ} → byte script at ≡ 0 → bytes ≡ lentAt script at → TakePromise s bytes t → w ≡ takeWeight (meaning (t .answer)) → course next (t .station) lent ≡ called (course sum s lent) script at
+  unfolding called
+  take-turn t {bytes} k b p e = simp (k, ← b) (ap (λ (n : ℕ). course n (t .station) lent) (a ∙ ap (added sum) e) ∙ ap (afterTake (course sum s lent)) p)
+
+  pub request-turn : (r : RequestResult) {after params : List ℕ} {ticks : ℕ} → byte script at ≡ 1 → params ≡ lentAt script at → ticks ≡ field script at 5 → RequestPromise s (field script at 2) (field script at 3) (field script at 4) ticks params 0 lent r after → w ≡ writeWeight (writing.meaning (r .answer)) → course next (r .station) after ≡ called (course sum s lent) script at
+  unfolding called
+  request-turn r {after} k b q p e = simp (k, ← b, ← q) (ap (λ (n : ℕ). course n (r .station) after) (a ∙ ap (added sum) e) ∙ ap (afterRequest (course sum s lent)) p)
+
+  pub cancel-turn : (r : CancelResult) → byte script at ≡ 2 → CancelPromise s (field script at 2) (field script at 3) (field script at 4) r → w ≡ cancelWeight (cancelOf (r .answer)) → course next (r .station) lent ≡ called (course sum s lent) script at
+  unfolding called
+  cancel-turn r k p e = simp k (ap (λ (n : ℕ). course n (r .station) lent) (a ∙ ap (added sum) e) ∙ ap (afterCancel (course sum s lent)) p)
+
+  pub tick-turn : (r : TickResult) → byte script at ≡ 3 → TickPromise s r → w ≡ tickWeight (r .ended) → course next (r .station) lent ≡ called (course sum s lent) script at
+  unfolding called
+  tick-turn r k p e = simp k (ap (λ (n : ℕ). course n (r .station) lent) (a ∙ ap (added sum) e) ∙ ap (afterTick (course sum s lent)) p)
+
+  pub list-turn : (r : Written) {after : List ℕ} → ¬ (byte script at ≡ 0) → ¬ (byte script at ≡ 1) → ¬ (byte script at ≡ 2) → ¬ (byte script at ≡ 3) → ListPromise s 0 lent r after → w ≡ writeWeight (writing.meaning r) → course next s after ≡ called (course sum s lent) script at
+  unfolding called
+  list-turn r {after} k0 k1 k2 k3 p e = simp (ne-eqb _ _ k0, ne-eqb _ _ k1, ne-eqb _ _ k2, ne-eqb _ _ k3) (ap (λ (n : ℕ). course n s after) (a ∙ ap (added sum) e) ∙ ap (afterList (course sum s lent)) p)
+
+-- the loop's state: what the first i calls have come to
+pub record Running (script lent₀ lent : List ℕ) (s : Station) (sum i : ℕ) : Type 0 where
+  pub within : i ≤ length script / slotSize
+  pub long : length lent ≡ length lent₀
+  pub so : course sum s lent ≡ after script lent₀ i
+
+pub begun : (script lent : List ℕ) {s : Station} → s ≡ freshStation → Running script lent lent s 0 0
+unfolding after
+begun script lent e = record { within = omega arith; long = refl; so = ap (λ (x : Station). course 0 x lent) e }
+
+pub more : {script lent₀ lent next : List ℕ} {s t : Station} {sum n i : ℕ} → Running script lent₀ lent s sum i → i < length script / slotSize → length next ≡ length lent → course n t next ≡ called (course sum s lent) script (slotSize * i) → Running script lent₀ next t n (i + 1)
+unfolding after
+more {script} {lent₀} {i = i} r h l e =
+    record {
+      within = omega arith;
+      long = l ∙ r .long;
+      so = e ∙ ap (λ (c : Course). called c script (slotSize * i)) (r .so) ∙ ap (after script lent₀) (sym (add-one i));
+    }
+
+pub finished : {script lent₀ lent : List ℕ} {s : Station} {sum i : ℕ} → Running script lent₀ lent s sum i → length script / slotSize ≤ i → measuredBy sum lent ≡ measured script lent₀
+finished {script} {lent₀} {i = i} r h =
+    let e : i ≡ length script / slotSize = omega (arith, r .within) in
+    ap told (r .so) ∙ ap (λ (n : ℕ). told (after script lent₀ n)) e

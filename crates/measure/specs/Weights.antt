@@ -1,0 +1,34 @@
+-- The benchmark's number for an answer: the numbers that it carries added up, over a base for its kind.
+use Prim.Native.Nat.{ℕ, _+_}
+use mathlib.Core.List.{List}
+use Rattle.report.specs.Sizes.{byte}
+use Rattle.frame.specs.Writing as writing
+use Rattle.port.specs.Answers.{Answer, refused, reply, stray, plain, event, failed, radio, notice}
+use Rattle.port.specs.Waiting as waiting
+
+abbrev pub aboutWeight : ℕ → ℕ → ℕ → ℕ → ℕ → ℕ → ℕ
+aboutWeight base port byte2 byte3 start size = base + port + byte2 + byte3 + start + size
+
+-- a notice has no more than its base
+abbrev pub takeWeight : Answer → ℕ
+takeWeight (refused number) = number
+takeWeight (reply port byte2 byte3 start size) = aboutWeight 1000 port byte2 byte3 start size
+takeWeight (stray port byte2 byte3 start size) = aboutWeight 2000 port byte2 byte3 start size
+takeWeight (plain port byte2 byte3 start size) = aboutWeight 3000 port byte2 byte3 start size
+takeWeight (event port byte2 byte3 start size) = aboutWeight 4000 port byte2 byte3 start size
+takeWeight (failed port byte2 byte3 start size code kind) =
+    aboutWeight (5000 + code + kind) port byte2 byte3 start size
+takeWeight (radio kind start size) = 6000 + kind + start + size
+takeWeight (notice n) = 7000
+
+abbrev pub writeWeight : writing.Answer → ℕ
+writeWeight (writing.refused number) = number
+writeWeight (writing.wrote size) = size
+
+abbrev pub cancelWeight : waiting.CancelAnswer → ℕ
+cancelWeight (waiting.CancelAnswer.refused number) = number
+cancelWeight waiting.done = 0
+
+abbrev pub tickWeight : List ℕ → ℕ
+tickWeight ended =
+    byte ended 0 + byte ended 1 + byte ended 2 + byte ended 3 + byte ended 4 + byte ended 5 + byte ended 6

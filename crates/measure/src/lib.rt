@@ -1,0 +1,184 @@
+// Many calls on one station that is kept in a local, for the benchmark. bench/station.h has the C side.
+ghost use mathlib.Core.Path.{_≡_};
+ghost use Prim.Native.Nat.{_≤_};
+ghost use Rattle.port.specs.Answers.{meaning, kindNumber};
+ghost use Rattle.port.specs.Waiting.{cancelOf};
+ghost use Rattle.frame.specs.Writing as writing;
+ghost use Rattle.measure.specs.Weights.{aboutWeight, takeWeight, writeWeight, cancelWeight, tickWeight};
+ghost use Rattle.measure.specs.Scripts.{measured, measuredBy};
+use frame::Written;
+use port::answer::About;
+use port::answer::ErrorKind;
+use port::answer::Taken;
+use port::waiting::Cancelled;
+use report::Device;
+use report::FeatureIndex;
+use station::Station;
+
+// One call of a script: its kind, how many bytes it lends (below 64), the device, byte 2, byte 3, the ticks,
+// two bytes that are not looked at, and the bytes that it lends.
+const SLOT: usize = 72;
+
+const LENT: usize = 8;
+
+const TAKE: u8 = 0;
+
+const REQUEST: u8 = 1;
+
+const CANCEL: u8 = 2;
+
+const TICK: u8 = 3;
+
+fn about_weight(base: u16, a: About) -> u64
+    ensures { λ r. ⌜ r ≡ aboutWeight base (a .port .0) (a .byte2 .0) (a .byte3) (a .start) (a .length) ⌝ }
+{
+    (base as u64)
+        + (a.port.0 as u64)
+        + (a.byte2.0 as u64)
+        + (a.byte3 as u64)
+        + (a.start as u64)
+        + (a.length as u64)
+}
+
+fn kind_number(kind: ErrorKind) -> u8
+    ensures { λ r. ⌜ r ≡ kindNumber kind ⌝ }
+{
+    match kind {
+        ErrorKind::Hidpp1 => 0x8f,
+        ErrorKind::Hidpp2 => 0xff,
+    }
+}
+
+fn take_weight(answer: Taken) -> u64
+    ensures { λ r. ⌜ r ≡ takeWeight (meaning answer) ⌝ }
+{
+    match answer {
+        Taken::Refused(refusal) => refusal.number() as u64,
+        Taken::Reply(a) => about_weight(1000, a),
+        Taken::Stray(a) => about_weight(2000, a),
+        Taken::Plain(a) => about_weight(3000, a),
+        Taken::Event(a) => about_weight(4000, a),
+        Taken::Failed { about, code, kind } => {
+            about_weight(5000 + (code as u16) + (kind_number(kind) as u16), about)
+        }
+        Taken::Radio {
+            kind,
+            start,
+            length,
+        } => 6000 + (kind as u64) + (start as u64) + (length as u64),
+        Taken::Noticed(_) => 7000,
+    }
+}
+
+fn write_weight(answer: Written) -> u64
+    ensures { λ r. ⌜ r ≡ writeWeight (writing.meaning answer) ⌝ }
+{
+    match answer {
+        Written::Refused(refusal) => refusal.number() as u64,
+        Written::Bytes(size) => size as u64,
+    }
+}
+
+fn cancel_weight(answer: Cancelled) -> u64
+    ensures { λ r. ⌜ r ≡ cancelWeight (cancelOf answer) ⌝ }
+{
+    match answer {
+        Cancelled::Refused(refusal) => refusal.number() as u64,
+        Cancelled::Done => 0,
+    }
+}
+
+fn wide(x: u8) -> u64
+    ensures same { λ r. ⌜ r ≡ x ⌝ }
+    ensures small { λ r. ⌜ r ≤ 255 ⌝ }
+{
+    x as u64
+}
+
+fn ticks_of(x: u8) -> u16
+    ensures { λ r. ⌜ r ≡ x ⌝ }
+{
+    x as u16
+}
+
+fn tick_weight(ended: [u8; 7]) -> u64
+    ensures { λ r. ⌜ r ≡ tickWeight ended ⌝ }
+{
+    wide(ended[0])
+        + wide(ended[1])
+        + wide(ended[2])
+        + wide(ended[3])
+        + wide(ended[4])
+        + wide(ended[5])
+        + wide(ended[6])
+}
+
+// Makes the calls of the script on a fresh station, each request and listing at the front of the buffer, and
+// adds up what they answer.
+#[no_mangle]
+pub extern "C" fn blotterfinch_measure(script: &[u8], buffer: &mut [u8]) -> u64
+    ensures { λ r. ⌜ measuredBy r (now (buffer .exit)) ≡ measured (now (script .entry)) (now (buffer .entry)) ⌝ }
+{
+    let turns = script.len() / SLOT;
+    let mut s = Station::new();
+    let mut sum: u64 = 0;
+    let mut i = 0;
+    while i < turns {
+        let at = SLOT * i;
+        let kind = script[at];
+        let start = at + LENT;
+        let end = start + (script[at + 1] % 64) as usize;
+        let device = script[at + 2];
+        let byte2 = script[at + 3];
+        let byte3 = script[at + 4];
+        let ticks = ticks_of(script[at + 5]);
+        i += 1;
+        match kind {
+            TAKE => {
+                let t = s.take(&script[start..end]);
+                let next = t.station;
+                s = next;
+                let answer = t.answer;
+                sum = std::num::wrapping_add_u64(sum, take_weight(answer));
+                continue;
+            }
+            REQUEST => {
+                let r = s.request(
+                    Device(device),
+                    FeatureIndex(byte2),
+                    byte3,
+                    ticks,
+                    &script[start..end],
+                    buffer,
+                    0,
+                );
+                let next = r.station;
+                s = next;
+                let answer = r.answer;
+                sum = std::num::wrapping_add_u64(sum, write_weight(answer));
+                continue;
+            }
+            CANCEL => {
+                let c = s.cancel(Device(device), FeatureIndex(byte2), byte3);
+                let next = c.station;
+                s = next;
+                let answer = c.answer;
+                sum = std::num::wrapping_add_u64(sum, cancel_weight(answer));
+                continue;
+            }
+            TICK => {
+                let t = s.tick();
+                let next = t.station;
+                s = next;
+                let ended = t.ended;
+                sum = std::num::wrapping_add_u64(sum, tick_weight(ended));
+                continue;
+            }
+            _ => {
+                sum = std::num::wrapping_add_u64(sum, write_weight(s.list(buffer, 0)));
+                continue;
+            }
+        }
+    }
+    sum
+}
