@@ -1,0 +1,85 @@
+//! Replays scripts, makes random ones and counts the answers' kinds.
+
+use std::ffi::{OsStr, OsString};
+use std::fs::File;
+use std::io::{self, BufRead, BufReader, BufWriter, Write};
+use std::process::ExitCode;
+
+use oracle::count::Tally;
+use oracle::random::write_script;
+use oracle::script::{replay, Failure};
+
+const USAGE: &str = "\
+usage: oracle replay [FILE]
+       oracle random SEED COUNT
+       oracle count FILE";
+
+fn main() -> ExitCode {
+    let arguments: Vec<OsString> = std::env::args_os().skip(1).collect();
+    let arguments: Vec<&OsStr> = arguments.iter().map(OsString::as_os_str).collect();
+    let result = match arguments.as_slice() {
+        [name] if *name == "replay" => replay_input(io::stdin().lock(), "standard input"),
+        [name, file] if *name == "replay" => replay_file(file),
+        [name, seed, count] if *name == "random" => random(seed, count),
+        [name, file] if *name == "count" => count(file),
+        _ => Err(USAGE.to_owned()),
+    };
+    match result {
+        Ok(code) => code,
+        Err(message) => {
+            eprintln!("{message}");
+            ExitCode::FAILURE
+        }
+    }
+}
+
+fn replay_file(file: &OsStr) -> Result<ExitCode, String> {
+    replay_input(open(file)?, &file.to_string_lossy())
+}
+
+fn open(file: &OsStr) -> Result<BufReader<File>, String> {
+    let opened = File::open(file).map_err(|error| failed(&file.to_string_lossy(), &error))?;
+    Ok(BufReader::new(opened))
+}
+
+fn replay_input(input: impl BufRead, name: &str) -> Result<ExitCode, String> {
+    replay(input, output()).map_err(|failure| match failure {
+        Failure::Input(error) => failed(name, &error),
+        Failure::Output(error) => failed("standard output", &error),
+    })?;
+    Ok(ExitCode::SUCCESS)
+}
+
+fn random(seed: &OsStr, count: &OsStr) -> Result<ExitCode, String> {
+    write_script(number(seed)?, number(count)?, output())
+        .map_err(|error| failed("standard output", &error))?;
+    Ok(ExitCode::SUCCESS)
+}
+
+fn count(file: &OsStr) -> Result<ExitCode, String> {
+    let tally =
+        Tally::read(open(file)?).map_err(|error| failed(&file.to_string_lossy(), &error))?;
+    let mut output = output();
+    tally
+        .print(&mut output)
+        .and_then(|()| output.flush())
+        .map_err(|error| failed("standard output", &error))?;
+    Ok(if tally.is_complete() {
+        ExitCode::SUCCESS
+    } else {
+        ExitCode::FAILURE
+    })
+}
+
+fn output() -> BufWriter<io::StdoutLock<'static>> {
+    BufWriter::new(io::stdout().lock())
+}
+
+fn number(word: &OsStr) -> Result<u64, String> {
+    let number = word.to_str().and_then(|text| text.parse().ok());
+    number.ok_or_else(|| format!("{} is no number\n{USAGE}", word.to_string_lossy()))
+}
+
+fn failed(name: &str, error: &io::Error) -> String {
+    format!("{name}: {error}")
+}

@@ -1,0 +1,193 @@
+//! Random scripts: what they cover, and what every call on them keeps.
+
+mod common;
+
+use std::collections::BTreeSet;
+
+use oracle::count::Tally;
+use oracle::random::{write_script, Generator};
+use oracle::script::{make, parse, Answer, Call, Line, LENT};
+use oracle::station::{PortNumber, Station};
+
+fn script(seed: u64, count: u64) -> Vec<u8> {
+    let mut script = Vec::new();
+    write_script(seed, count, &mut script).expect("memory can be written");
+    script
+}
+
+/// The calls of a random script.
+fn calls(seed: u64, count: usize) -> impl Iterator<Item = Call> {
+    let mut generator = Generator::new(seed);
+    let lines = (0..count).map(move |_| generator.answered_line());
+    lines.filter_map(|line| match parse(&line) {
+        Line::Call(call) => Some(call),
+        Line::NoCall | Line::Silent => None,
+    })
+}
+
+fn name(call: &Call) -> &'static str {
+    match call {
+        Call::Take(_) => "take",
+        Call::Request { .. } => "request",
+        Call::Cancel { .. } => "cancel",
+        Call::Tick => "tick",
+        Call::Switch { .. } => "switch",
+        Call::GetPaired(_) => "get-paired",
+        Call::Led { .. } => "led",
+        Call::List(_) => "list",
+        Call::Read(_) => "read",
+        Call::Frame { .. } => "frame",
+        Call::Mouse(_) => "mouse",
+        Call::Dump => "dump",
+    }
+}
+
+#[test]
+fn one_seed_gives_one_script() {
+    assert_eq!(script(7, 500), script(7, 500));
+    assert_ne!(script(7, 500), script(8, 500));
+}
+
+#[test]
+fn count_is_the_number_of_answered_lines() {
+    for count in [0, 1, 2, 300] {
+        let script = script(3, count);
+        let lines = script.split(|&byte| byte == b'\n');
+        let answered = lines.filter(|line| parse(line) != Line::Silent).count();
+        assert_eq!(answered as u64, count);
+    }
+}
+
+#[test]
+fn every_kind_of_answer_occurs() {
+    for seed in 1..=5 {
+        let mut tally = Tally::default();
+        let answers = common::answers(script(seed, 10_000));
+        answers.iter().for_each(|line| tally.add(line));
+        let mut text = Vec::new();
+        tally.print(&mut text).expect("memory can be written");
+        assert!(tally.is_complete(), "{}", String::from_utf8_lossy(&text));
+    }
+}
+
+#[test]
+fn a_missing_kind_and_a_strange_line_are_noticed() {
+    assert!(!Tally::default().is_complete());
+    for line in [
+        "",
+        "refused 15",
+        "refused 0",
+        "wrote 8: 00",
+        "reply",
+        "Moved",
+    ] {
+        let mut tally = Tally::default();
+        tally.add(line);
+        let mut text = Vec::new();
+        tally.print(&mut text).expect("memory can be written");
+        assert!(
+            text.ends_with(b" 1  lines that are no answer\n"),
+            "{line:?}"
+        );
+    }
+}
+
+/// The call that each refusal is for, from 01's table.
+#[test]
+fn every_call_is_refused_in_every_way_and_no_other() {
+    let mut seen = BTreeSet::new();
+    let mut station = Station::default();
+    for call in calls(11, 40_000) {
+        if let Some(refusal) = make(&mut station, &call).refusal() {
+            seen.insert((name(&call), refusal.number()));
+        }
+    }
+    let table: [(&str, &[u8]); 10] = [
+        ("take", &[1, 2, 3, 4, 5, 6, 7, 8]),
+        ("request", &[5, 9, 10, 11, 12]),
+        ("cancel", &[5, 13]),
+        ("switch", &[10, 14]),
+        ("get-paired", &[10]),
+        ("led", &[5, 10]),
+        ("list", &[10]),
+        ("read", &[1, 2, 3, 4, 5, 6]),
+        ("frame", &[5, 9, 10]),
+        ("mouse", &[3]),
+    ];
+    let pairs = table
+        .iter()
+        .flat_map(|(name, numbers)| numbers.iter().map(|&number| (*name, number)));
+    assert_eq!(seen, pairs.collect());
+}
+
+#[test]
+fn refused_calls_change_nothing() {
+    let mut station = Station::default();
+    for call in calls(12, 40_000) {
+        let before = station.clone();
+        let answer = make(&mut station, &call);
+        if answer.refusal().is_some() {
+            assert_eq!(station, before, "{call:?}");
+        }
+        if let Answer::Written(Err(_), buffer) = answer {
+            assert!(buffer.iter().all(|&byte| byte == LENT), "{call:?}");
+        }
+    }
+}
+
+#[test]
+fn writers_keep_the_bytes_around_the_frame() {
+    let mut station = Station::default();
+    for call in calls(13, 40_000) {
+        let Answer::Written(Ok(length), buffer) = make(&mut station, &call) else {
+            continue;
+        };
+        let (Call::Request { lent, .. }
+        | Call::Switch { lent, .. }
+        | Call::GetPaired(lent)
+        | Call::Led { lent, .. }
+        | Call::List(lent)
+        | Call::Frame { lent, .. }) = call
+        else {
+            panic!("{call:?} is no writer");
+        };
+        let place = usize::from(lent.place);
+        let around = buffer[..place].iter().chain(&buffer[place + length..]);
+        assert!(around.clone().all(|&byte| byte == LENT));
+        assert_eq!(buffer.len(), usize::from(lent.length));
+    }
+}
+
+/// Striking out the calls for other ports leaves a port's record and answers.
+#[test]
+fn ports_are_independent() {
+    let mut whole = Station::default();
+    let mut alone: [Station; 7] = Default::default();
+    for call in calls(14, 40_000) {
+        let answer = make(&mut whole, &call);
+        for (slot, number) in PortNumber::ALL.into_iter().enumerate() {
+            let station = &mut alone[slot];
+            if call == Call::Tick {
+                assert_eq!(ended(&make(station, &call), slot), ended(&answer, slot));
+            } else if named_port(&call) == Some(number.byte()) {
+                assert_eq!(make(station, &call), answer, "{call:?}");
+            }
+            assert_eq!(station.port(number), whole.port(number), "{call:?}");
+        }
+    }
+}
+
+fn ended(answer: &Answer, slot: usize) -> u8 {
+    match answer {
+        Answer::Ended(counts) => counts[slot],
+        _ => panic!("{answer:?} is no answer to a tick"),
+    }
+}
+
+fn named_port(call: &Call) -> Option<u8> {
+    match call {
+        Call::Take(report) => report.get(1).copied(),
+        Call::Request { port, .. } | Call::Cancel { port, .. } => Some(*port),
+        _ => None,
+    }
+}
