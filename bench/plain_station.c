@@ -2,19 +2,99 @@
 
 #include <string.h>
 
-#include "../tests/c/plain.h"
+#include "blotterfinch.h"
 
-enum { HIDPP_SHORT = 0x10, HIDPP_LONG = 0x11 };
-enum { HIDPP_HEAD = 4, DJ_HEAD = 3, SHORT_PARAMETERS = 3 };
+enum { HIDPP_SHORT = 0x10, HIDPP_LONG = 0x11, DJ_SHORT = 0x20, DJ_LONG = 0x21 };
+enum { HIDPP_HEAD = 4, DJ_HEAD = 3 };
+enum { SHORT_PARAMETERS = 3, LONG_PARAMETERS = 16 };
+enum { RECEIVER = 0xFF };
 enum { ERROR_1 = 0x8F, ERROR_2 = 0xFF };
-enum { FEATURE_INDEX_END = 0x40, SUB_ID_REGISTERS = 0x80 };
+enum {
+    FEATURE_INDEX_END = 0x40,
+    SET_REGISTER = 0x80,
+    GET_REGISTER = 0x81,
+    SET_LONG_REGISTER = 0x82,
+    GET_LONG_REGISTER = 0x83
+};
 enum { GET_FEATURE = 0, PING = 1 };
 enum { INVALID_SUB_ID = 1 };
 enum { MAX_INDEX = 63, MAX_LEVEL = 100 };
 enum { BATTERY = 3, WIRELESS_STATUS = 4 };
-enum { DEVICE_UNPAIRED = 0x40, DEVICE_PAIRED = 0x41, CONNECTION_STATUS = 0x42 };
+enum {
+    KEYBOARD_LEDS = 0x0E,
+    DEVICE_UNPAIRED = 0x40,
+    DEVICE_PAIRED = 0x41,
+    CONNECTION_STATUS = 0x42,
+    DJ_COMMANDS = 0x80
+};
+enum { PAIRED_EMPTY = 1 << 1 };
 enum { RADIO_TYPES = 32 };
 enum { LONGEST_LISTING = 305 };
+
+static bool is_device(uint8_t index)
+{
+    return index >= 1 && index <= PLAIN_DEVICES;
+}
+
+static bool is_port(uint8_t index)
+{
+    return is_device(index) || index == RECEIVER;
+}
+
+static bool is_hidpp(uint8_t id)
+{
+    return id == HIDPP_SHORT || id == HIDPP_LONG;
+}
+
+static size_t report_length(uint8_t id)
+{
+    switch (id) {
+    case HIDPP_SHORT: return 7;
+    case HIDPP_LONG: return 20;
+    case DJ_SHORT: return 15;
+    case DJ_LONG: return 32;
+    default: return 0;
+    }
+}
+
+/* Refusals 5 and 6. */
+static uint8_t hidpp_refusal(const uint8_t *bytes)
+{
+    if (!is_port(bytes[1]))
+        return BLOTTERFINCH_NO_SUCH_PORT;
+    if ((bytes[2] >= 0x84 && bytes[2] <= 0x8E) || (bytes[2] >= 0x90 && bytes[2] <= 0xFE))
+        return BLOTTERFINCH_RESERVED_SUB_ID;
+    return BLOTTERFINCH_ACCEPTED;
+}
+
+/* Refusals 4 and 5. */
+static uint8_t dj_refusal(const uint8_t *bytes)
+{
+    uint8_t type = bytes[2];
+
+    if (type >= DJ_COMMANDS || type == KEYBOARD_LEDS)
+        return BLOTTERFINCH_DOWN_ONLY;
+    if (type == DEVICE_PAIRED && (bytes[3] & PAIRED_EMPTY) != 0)
+        return BLOTTERFINCH_ACCEPTED;
+    if (type > CONNECTION_STATUS ? is_port(bytes[1]) : is_device(bytes[1]))
+        return BLOTTERFINCH_ACCEPTED;
+    return BLOTTERFINCH_NO_SUCH_PORT;
+}
+
+/* Refusals 1 to 6. */
+static uint8_t report_refusal(const uint8_t *bytes, size_t length)
+{
+    size_t due;
+
+    if (length == 0)
+        return BLOTTERFINCH_EMPTY_REPORT;
+    due = report_length(bytes[0]);
+    if (due == 0)
+        return BLOTTERFINCH_UNKNOWN_ID;
+    if (due != length)
+        return BLOTTERFINCH_WRONG_LENGTH;
+    return is_hidpp(bytes[0]) ? hidpp_refusal(bytes) : dj_refusal(bytes);
+}
 
 /* Port 255 is the last. */
 static struct plain_port *port_of(struct plain_station *station, uint8_t device)
@@ -142,7 +222,7 @@ static enum plain_kind take_hidpp(struct plain_port *port, const uint8_t *bytes,
         end_request(request);
         return PLAIN_REPLY;
     }
-    if (bytes[2] >= SUB_ID_REGISTERS)
+    if (bytes[2] >= SET_REGISTER)
         return PLAIN_STRAY;
     if (bytes[2] >= FEATURE_INDEX_END)
         return PLAIN_PLAIN;
@@ -236,14 +316,14 @@ void plain_fresh(struct plain_station *station)
 void plain_take(struct plain_station *station, const uint8_t *bytes, size_t length,
                 struct plain_answer *answer)
 {
-    uint8_t refusal = plain_refusal(bytes, length);
+    uint8_t refusal = report_refusal(bytes, length);
 
     if (refusal != BLOTTERFINCH_ACCEPTED) {
         refuse(answer, refusal);
         return;
     }
     answer->port = bytes[1];
-    if (bytes[0] == HIDPP_SHORT || bytes[0] == HIDPP_LONG) {
+    if (is_hidpp(bytes[0])) {
         answer->byte2 = bytes[2];
         answer->byte3 = bytes[3];
         answer->start = HIDPP_HEAD;
@@ -251,11 +331,32 @@ void plain_take(struct plain_station *station, const uint8_t *bytes, size_t leng
         answer->kind = take_hidpp(port_of(station, bytes[1]), bytes, answer);
     } else if (bytes[2] < DEVICE_UNPAIRED) {
         take_radio(port_of(station, bytes[1]), bytes, length, answer);
-    } else if (bytes[2] == DEVICE_PAIRED && (bytes[3] & 2) != 0) {
+    } else if (bytes[2] == DEVICE_PAIRED && (bytes[3] & PAIRED_EMPTY) != 0) {
         answer->kind = PLAIN_EMPTY_LIST;
     } else {
         take_notification(port_of(station, bytes[1]), bytes, answer);
     }
+}
+
+/* Refusal 9. */
+static bool is_forbidden(uint8_t byte2, uint8_t byte3, uint16_t ticks, const uint8_t *parameters,
+                         size_t length)
+{
+    bool is_short = length == SHORT_PARAMETERS, is_long = length == LONG_PARAMETERS;
+
+    if ((!is_short && !is_long) || ticks < 1 || ticks > 255)
+        return true;
+    switch (byte2) {
+    case SET_REGISTER:
+    case GET_REGISTER:
+    case GET_LONG_REGISTER:
+        return is_long;
+    case SET_LONG_REGISTER:
+        return is_short;
+    }
+    if (byte2 >= FEATURE_INDEX_END || (byte3 & 0x0F) == 0)
+        return true;
+    return byte2 == 0 && byte3 >> 4 == GET_FEATURE && parameters[0] == 0 && parameters[1] == 0;
 }
 
 static struct plain_request *empty_place(struct plain_port *port)
@@ -274,9 +375,9 @@ uint8_t plain_request(struct plain_station *station, uint8_t device, uint8_t byt
     struct plain_request *request;
     size_t length = HIDPP_HEAD + parameters_length;
 
-    if (!plain_is_port(device))
+    if (!is_port(device))
         return BLOTTERFINCH_NO_SUCH_PORT;
-    if (plain_is_forbidden(byte2, byte3, parameters, parameters_length) || ticks < 1 || ticks > 255)
+    if (is_forbidden(byte2, byte3, ticks, parameters, parameters_length))
         return BLOTTERFINCH_FORBIDDEN;
     if (place > buffer_length || length > buffer_length - place)
         return BLOTTERFINCH_NO_ROOM;
@@ -306,7 +407,7 @@ uint8_t plain_cancel(struct plain_station *station, uint8_t device, uint8_t byte
 {
     struct plain_request *request;
 
-    if (!plain_is_port(device))
+    if (!is_port(device))
         return BLOTTERFINCH_NO_SUCH_PORT;
     request = waiting(port_of(station, device), byte2, byte3);
     if (request == NULL)

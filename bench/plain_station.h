@@ -1,5 +1,5 @@
-/* The station of document 01 in plain C, changed in place, to compare the library's cost with. It reads
- * reports and writes request frames by the plain C of the tests. */
+/* The station of document 01 in plain C, changed in place, to compare the library's cost with. It shares
+ * the header's refusal numbers, and nothing else, with the library. */
 #ifndef PLAIN_STATION_H
 #define PLAIN_STATION_H
 

@@ -1,5 +1,6 @@
 #include "plain.h"
 
+#include <stdbool.h>
 #include <string.h>
 
 /* 01, "Report sizes and bytes". */
@@ -35,7 +36,7 @@ static bool is_device(uint8_t index)
     return index >= 1 && index <= 6;
 }
 
-bool plain_is_port(uint8_t index)
+static bool is_port(uint8_t index)
 {
     return is_device(index) || index == RECEIVER;
 }
@@ -56,7 +57,7 @@ static uint8_t hidpp_refusal(const uint8_t *report)
 {
     uint8_t byte2 = report[2];
 
-    if (!plain_is_port(report[1]))
+    if (!is_port(report[1]))
         return BLOTTERFINCH_NO_SUCH_PORT;
     if ((byte2 >= 0x84 && byte2 <= 0x8E) || (byte2 >= 0x90 && byte2 <= 0xFE))
         return BLOTTERFINCH_RESERVED_SUB_ID;
@@ -72,43 +73,45 @@ static uint8_t dj_refusal(const uint8_t *report)
         return BLOTTERFINCH_DOWN_ONLY;
     if (type == DEVICE_PAIRED && (report[3] & PAIRED_EMPTY))
         return BLOTTERFINCH_ACCEPTED;
-    if (type > CONNECTION_STATUS ? plain_is_port(report[1]) : is_device(report[1]))
+    if (type > CONNECTION_STATUS ? is_port(report[1]) : is_device(report[1]))
         return BLOTTERFINCH_ACCEPTED;
     return BLOTTERFINCH_NO_SUCH_PORT;
 }
 
-static bool is_hidpp(uint8_t id)
+static blotterfinch_report refused(uint8_t refusal)
 {
-    return id == HIDPP_SHORT || id == HIDPP_LONG;
-}
+    blotterfinch_report report = {0};
 
-uint8_t plain_refusal(const uint8_t *bytes, size_t bytes_length)
-{
-    size_t length;
-
-    if (bytes_length == 0)
-        return BLOTTERFINCH_EMPTY_REPORT;
-    length = plain_report_length(bytes[0]);
-    if (length == 0)
-        return BLOTTERFINCH_UNKNOWN_ID;
-    if (length != bytes_length)
-        return BLOTTERFINCH_WRONG_LENGTH;
-    return is_hidpp(bytes[0]) ? hidpp_refusal(bytes) : dj_refusal(bytes);
+    report.refusal = refusal;
+    return report;
 }
 
 blotterfinch_report plain_read(const uint8_t *bytes, size_t bytes_length)
 {
     blotterfinch_report report = {0};
+    size_t length;
+    bool hidpp;
+    uint8_t refusal;
 
-    report.refusal = plain_refusal(bytes, bytes_length);
-    if (report.refusal != BLOTTERFINCH_ACCEPTED)
-        return report;
+    if (bytes_length == 0)
+        return refused(BLOTTERFINCH_EMPTY_REPORT);
+    length = plain_report_length(bytes[0]);
+    if (length == 0)
+        return refused(BLOTTERFINCH_UNKNOWN_ID);
+    if (length != bytes_length)
+        return refused(BLOTTERFINCH_WRONG_LENGTH);
+
+    hidpp = bytes[0] == HIDPP_SHORT || bytes[0] == HIDPP_LONG;
+    refusal = hidpp ? hidpp_refusal(bytes) : dj_refusal(bytes);
+    if (refusal != BLOTTERFINCH_ACCEPTED)
+        return refused(refusal);
+
     report.id = bytes[0];
     report.device = bytes[1];
     report.byte2 = bytes[2];
     report.byte3 = bytes[3];
-    report.start = is_hidpp(bytes[0]) ? HIDPP_PARAMETERS : DJ_PARAMETERS;
-    report.length = (uint8_t)(bytes_length - report.start);
+    report.start = hidpp ? HIDPP_PARAMETERS : DJ_PARAMETERS;
+    report.length = (uint8_t)(length - report.start);
     return report;
 }
 
@@ -134,7 +137,7 @@ static blotterfinch_written write_frame(const uint8_t *frame, size_t length,
 }
 
 /* 01, "Number 9", without the ticks. */
-bool plain_is_forbidden(uint8_t byte2, uint8_t byte3, const uint8_t *parameters, size_t length)
+static bool is_forbidden(uint8_t byte2, uint8_t byte3, const uint8_t *parameters, size_t length)
 {
     bool is_short = length == HIDPP_SHORT_LENGTH - HIDPP_PARAMETERS;
     bool is_long = length == HIDPP_LONG_LENGTH - HIDPP_PARAMETERS;
@@ -163,9 +166,9 @@ blotterfinch_written plain_request_frame(uint8_t device, uint8_t byte2, uint8_t 
     uint8_t frame[HIDPP_LONG_LENGTH];
     size_t length;
 
-    if (!plain_is_port(device))
+    if (!is_port(device))
         return not_written(BLOTTERFINCH_NO_SUCH_PORT);
-    if (plain_is_forbidden(byte2, byte3, parameters, parameters_length))
+    if (is_forbidden(byte2, byte3, parameters, parameters_length))
         return not_written(BLOTTERFINCH_FORBIDDEN);
 
     length = HIDPP_PARAMETERS + parameters_length;

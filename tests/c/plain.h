@@ -3,21 +3,10 @@
 #ifndef PLAIN_H
 #define PLAIN_H
 
-#include <stdbool.h>
-
 #include "blotterfinch.h"
 
 /* The length of a report with this id, or 0 where no report has it. */
 size_t plain_report_length(uint8_t id);
-
-/* 1 to 6, or 255. */
-bool plain_is_port(uint8_t index);
-
-/* 01, "Number 9", without the ticks. */
-bool plain_is_forbidden(uint8_t byte2, uint8_t byte3, const uint8_t *parameters, size_t length);
-
-/* 01, refusals 1 to 6, or 0. */
-uint8_t plain_refusal(const uint8_t *bytes, size_t bytes_length);
 
 blotterfinch_report plain_read(const uint8_t *bytes, size_t bytes_length);
 

@@ -42,7 +42,7 @@ fn put_small(buffer: &mut [u8], at: usize, n: u8) -> usize
     text::put_decimal(buffer, at, n as usize)
 }
 
-fn put_link(buffer: &mut [u8], at: usize, up: bool) -> usize
+pub fn put_link(buffer: &mut [u8], at: usize, up: bool) -> usize
     ensures { λ r. ⌜ filled r (now (buffer .exit)) ≡ putRule (linkText up) at (now (buffer .entry)) ⌝ }
 {
     if up {
@@ -51,7 +51,7 @@ fn put_link(buffer: &mut [u8], at: usize, up: bool) -> usize
     text::put_word(buffer, at, b"down")
 }
 
-fn put_version(buffer: &mut [u8], at: usize, version: Version) -> usize
+pub fn put_version(buffer: &mut [u8], at: usize, version: Version) -> usize
     ensures put { λ r. ⌜ filled r (now (buffer .exit)) ≡ putRule (versionText version) at (now (buffer .entry)) ⌝ }
     ensures short { λ r. ⌜ length (versionText version) ≤ 7 ⌝ }
 {
@@ -65,7 +65,7 @@ fn put_version(buffer: &mut [u8], at: usize, version: Version) -> usize
     }
 }
 
-fn put_battery(buffer: &mut [u8], at: usize, battery: Battery) -> usize
+pub fn put_battery(buffer: &mut [u8], at: usize, battery: Battery) -> usize
     ensures put { λ r. ⌜ filled r (now (buffer .exit)) ≡ putRule (batteryText battery) at (now (buffer .entry)) ⌝ }
     ensures short { λ r. ⌜ length (batteryText battery) ≤ 11 ⌝ }
 {

@@ -1,4 +1,4 @@
-// Many calls on one station that is kept in a local, for the benchmark. bench/station.h has the C side.
+// Many calls on one station that is kept in a local, for the benchmark. bench/measure.h is the C side.
 ghost use mathlib.Core.Path.{_≡_};
 ghost use Prim.Native.Nat.{_≤_};
 ghost use Rattle.port.specs.Answers.{meaning, kindNumber};
