@@ -4,7 +4,7 @@ use mathlib.Core.Path.{_≡_}
 use mathlib.Core.Bool.{cond}
 use mathlib.Core.List.{List}
 use mathlib.Core.Option.{Option, none, some}
-use lib.ListN.{take, drop}
+use lib.ListN.{length, take, drop}
 use Rattle.line.specs.declared.fields.NextByte.{NextByte}
 use Rattle.line.specs.declared.fields.NextByte.the-variants as bytes
 use Rattle.line.specs.declared.fields.NextNumber.{NextNumber}
@@ -42,4 +42,4 @@ listed b = cond (b .whole) (some (take (b .count) (b .bytes))) none
 -- a list of bytes that stands for this, and lies within its array
 pub record Lists (rule : Option (List ℕ)) (b : ByteList) : Type 0 where
   pub so : listed b ≡ rule
-  pub within : b .count ≤ 256
+  pub within : b .count ≤ length (b .bytes)

@@ -1,6 +1,6 @@
 -- Lines of replay scripts, worked out: the page's own example, and the edges of the script language.
 use mathlib.Core.Path.{_≡_, refl}
-use mathlib.Core.List.{List, [], _∷_, _++_}
+use mathlib.Core.List.{[], _∷_, _++_}
 use Rattle.text.specs.Words.{ascii}
 use Rattle.line.specs.Words.{words, wordsAfter, sameWord}
 use Rattle.line.specs.Values.{hexByte, hexDigit, number, digitsAfter, allDigits, valueAfter}

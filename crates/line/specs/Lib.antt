@@ -9,4 +9,5 @@ pub mod Commands
 pub mod Lines
 pub mod Meaning
 pub mod LinesLaws
+pub mod RoomLaws
 mod Examples

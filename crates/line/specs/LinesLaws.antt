@@ -1,11 +1,10 @@
 -- Laws of one line: the carriage return at its end, its first word, and its bytes.
-use Prim.Native.Nat.{ℕ, _-_, _≤_, _<_}
-use mathlib.Core.Path.{_≡_, refl, sym, _∙_, ap, subst}
+use Prim.Native.Nat.{ℕ, _-_, _≤_}
+use mathlib.Core.Path.{_≡_, refl, sym, _∙_, ap}
 use mathlib.Core.Bool.{Bool, true, false, cond}
 use mathlib.Core.List.{List, [], _∷_}
 use mathlib.Core.Option.{Option, none, some}
 use native.Mathlib.Omega.{arith}
-use lib.Dec.{eqb}
 use lib.ListN.{length, take, drop}
 use lib.Seq.{take-length}
 use borrow.Author.Tests.{eq-eqb, ne-eqb}
@@ -64,19 +63,19 @@ module _ (command : program.Command) (following : List (List ℕ)) {b : ByteList
 
 -- the three ways of a line
 module _ (line : List ℕ) {text : List ℕ} {p : Parsed} (left : text ≡ withoutReturn line) where
-  by-text : {command : Command} → Parses command p → textRule text ≡ command → (meaning p ≡ lineRule line) × (p .count ≤ 256)
+  by-text : {command : Command} → Parses command p → textRule text ≡ command → (meaning p ≡ lineRule line) × (p .count ≤ length (p .bytes))
   unfolding lineRule
   by-text h e = (h .so ∙ sym e ∙ ap textRule left, h .within)
 
-  pub empty-line : Parses blank p → length text ≡ 0 → (meaning p ≡ lineRule line) × (p .count ≤ 256)
+  pub empty-line : Parses blank p → length text ≡ 0 → (meaning p ≡ lineRule line) × (p .count ≤ length (p .bytes))
   unfolding textRule
   empty-line h n = by-text h (simp (eq-eqb (length text) 0 n))
 
   module _ (some-left : length text ≡ 0 → ⊥) where
-    pub comment-line : Parses blank p → byte text 0 ≡ 35 → (meaning p ≡ lineRule line) × (p .count ≤ 256)
+    pub comment-line : Parses blank p → byte text 0 ≡ 35 → (meaning p ≡ lineRule line) × (p .count ≤ length (p .bytes))
     unfolding textRule
     comment-line h e = by-text h (simp (ne-eqb (length text) 0 some-left, eq-eqb (byte text 0) 35 e))
 
-    pub call-line : Parses (callOf (words text)) p → (byte text 0 ≡ 35 → ⊥) → (meaning p ≡ lineRule line) × (p .count ≤ 256)
+    pub call-line : Parses (callOf (words text)) p → (byte text 0 ≡ 35 → ⊥) → (meaning p ≡ lineRule line) × (p .count ≤ length (p .bytes))
     unfolding textRule
     call-line h e = by-text h (simp (ne-eqb (length text) 0 some-left, ne-eqb (byte text 0) 35 e))

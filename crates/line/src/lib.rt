@@ -19,55 +19,50 @@ pub mod words;
 
 const RETURN: u8 = 13;
 
-// What a line asks for. `room` is the length of the lent buffer; a report, a payload or parameters stand beside the command.
-pub enum Command {
-    Blank,
-    NoCall,
-    Take,
+// The calls that write into a lent buffer.
+pub enum Writer {
     Request {
         port: Device,
         byte2: FeatureIndex,
         byte3: u8,
         ticks: u16,
-        place: u16,
-        room: u16,
     },
+    Switch {
+        bits: u8,
+        timeout: u8,
+    },
+    GetPaired,
+    Led {
+        port: Device,
+        leds: u8,
+    },
+    List,
+    Frame {
+        port: Device,
+        byte2: FeatureIndex,
+        byte3: u8,
+    },
+}
+
+// What a line asks for. A writer is lent a buffer of `room` bytes; a report, a payload or parameters stand beside the command.
+pub enum Command {
+    Blank,
+    NoCall,
+    Take,
     Cancel {
         port: Device,
         byte2: FeatureIndex,
         byte3: u8,
     },
     Tick,
-    Switch {
-        bits: u8,
-        timeout: u8,
-        place: u16,
-        room: u16,
-    },
-    GetPaired {
-        place: u16,
-        room: u16,
-    },
-    Led {
-        port: Device,
-        leds: u8,
-        place: u16,
-        room: u16,
-    },
-    List {
-        place: u16,
-        room: u16,
-    },
     Read,
-    Frame {
-        port: Device,
-        byte2: FeatureIndex,
-        byte3: u8,
-        place: u16,
-        room: u16,
-    },
     Mouse,
     Dump,
+    Write {
+        writer: Writer,
+        place: u16,
+        room: u16,
+    },
 }
 
 // A command, and the first `count` bytes: its report, payload or parameters.
@@ -133,11 +128,14 @@ fn request_call(line: &[u8], at: usize) -> Parsed
     let NextLent::Lent { place, room, next } = fields::next_lent(line, next) else {
         return bare(Command::NoCall);
     };
-    let command = Command::Request {
+    let writer = Writer::Request {
         port,
         byte2,
         byte3,
         ticks,
+    };
+    let command = Command::Write {
+        writer,
         place,
         room,
     };
@@ -175,9 +173,8 @@ fn switch_call(line: &[u8], at: usize) -> Parsed
     let NextLent::Lent { place, room, next } = fields::next_lent(line, next) else {
         return bare(Command::NoCall);
     };
-    let command = Command::Switch {
-        bits,
-        timeout,
+    let command = Command::Write {
+        writer: Writer::Switch { bits, timeout },
         place,
         room,
     };
@@ -190,7 +187,12 @@ fn get_paired_call(line: &[u8], at: usize) -> Parsed
     let NextLent::Lent { place, room, next } = fields::next_lent(line, at) else {
         return bare(Command::NoCall);
     };
-    alone_at(Command::GetPaired { place, room }, line, next)
+    let command = Command::Write {
+        writer: Writer::GetPaired,
+        place,
+        room,
+    };
+    alone_at(command, line, next)
 }
 
 fn led_call(line: &[u8], at: usize) -> Parsed
@@ -205,9 +207,12 @@ fn led_call(line: &[u8], at: usize) -> Parsed
     let NextLent::Lent { place, room, next } = fields::next_lent(line, next) else {
         return bare(Command::NoCall);
     };
-    let command = Command::Led {
+    let writer = Writer::Led {
         port: Device(port),
         leds,
+    };
+    let command = Command::Write {
+        writer,
         place,
         room,
     };
@@ -220,7 +225,12 @@ fn list_call(line: &[u8], at: usize) -> Parsed
     let NextLent::Lent { place, room, next } = fields::next_lent(line, at) else {
         return bare(Command::NoCall);
     };
-    alone_at(Command::List { place, room }, line, next)
+    let command = Command::Write {
+        writer: Writer::List,
+        place,
+        room,
+    };
+    alone_at(command, line, next)
 }
 
 fn frame_call(line: &[u8], at: usize) -> Parsed
@@ -238,10 +248,8 @@ fn frame_call(line: &[u8], at: usize) -> Parsed
     let NextLent::Lent { place, room, next } = fields::next_lent(line, next) else {
         return bare(Command::NoCall);
     };
-    let command = Command::Frame {
-        port,
-        byte2,
-        byte3,
+    let command = Command::Write {
+        writer: Writer::Frame { port, byte2, byte3 },
         place,
         room,
     };
@@ -325,7 +333,7 @@ fn text_end(line: &[u8]) -> usize
 // Reads a line, which comes without its newline.
 pub fn parse_line(line: &[u8]) -> Parsed
     ensures call { λ r. ⌜ meaning r ≡ lineRule (now (line .entry)) ⌝ }
-    ensures within { λ r. ⌜ r .count ≤ 256 ⌝ }
+    ensures within { λ r. ⌜ r .count ≤ length (r .bytes) ⌝ }
 {
     let end = text_end(line);
     let text = &line[..end];

@@ -30,7 +30,7 @@ is-end-requires : tie.Need-is-end-requires Inv-loop μ-loop
 is-end-requires c κs = search needs
 
 returns : tie.Need-returns Inv-loop μ-loop
-returns c = record { so = collect-stopped (c .before .before .before .before .before .loop .inv) (sym (c .before .before .before .next-byte .ensures) ∙ ap (byteRead (c .before .before .before .before .before .before .before .args .line .now)) (c .before .enum-told .given .1)) (c .is-end .ensures); within = c .before .before .before .before .before .loop .inv .small }
+returns c = record { so = collect-stopped (c .before .before .before .before .before .loop .inv) (sym (c .before .before .before .next-byte .ensures) ∙ ap (byteRead (c .before .before .before .before .before .before .before .args .line .now)) (c .before .enum-told .given .1)) (c .is-end .ensures); within = omega (arith, c .before .before .before .before .before .loop .inv .small, c .before .before .before .before .before .loop .inv .sized) }
 
 array-write-bytes : tie.Need-array-write-bytes Inv-loop μ-loop
 array-write-bytes c = omega (arith, c .before .before .before .before .before .loop .inv .sized)
@@ -48,7 +48,7 @@ is-end-requires-2 : tie.Need-is-end-requires-2 Inv-loop μ-loop
 is-end-requires-2 c κs = search needs
 
 returns-2 : tie.Need-returns-2 Inv-loop μ-loop
-returns-2 c = record { so = collect-full (c .before .before .loop .inv) (c .before .loop-test .left) (c .is-end2 .ensures); within = c .before .before .loop .inv .small }
+returns-2 c = record { so = collect-full (c .before .before .loop .inv) (c .before .loop-test .left) (c .is-end2 .ensures); within = omega (arith, c .before .before .loop .inv .small, c .before .before .loop .inv .sized) }
 
 pub bytes-left-spec : {M : Type 1} → statement M
 bytes-left-spec =
