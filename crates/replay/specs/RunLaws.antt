@@ -1,0 +1,59 @@
+-- Laws of the run's buffers: a line's text ends within the output, and what is squeezed stays within the input.
+use Prim.Native.Nat.{ℕ, _+_, _≤_, _<_}
+use mathlib.Core.Path.{_≡_, sym, _∙_, subst}
+use mathlib.Core.List.{List}
+use native.Mathlib.Omega.{arith}
+use lib.ListN.{length}
+use Rattle.frame.specs.declared.Written.{Written}
+use Rattle.frame.specs.declared.Written.the-variants.{Bytes}
+use Rattle.desk.specs.Meaning.{endBy}
+use Rattle.replay.specs.declared.State.{State}
+
+pub ended : {w : Written} {size : ℕ} (at room : ℕ) → w ≡ Bytes size → endBy at w ≤ room → at + size ≤ room
+ended at room e h = subst (λ (w : Written). endBy at w ≤ room) e h
+
+-- so many bytes are kept of so many that were read
+pub record Squeezing (b₀ b : List ℕ) (kept i : ℕ) : Type 0 where
+  pub fewer : kept ≤ i
+  pub within : i ≤ length b
+  pub same : length b ≡ length b₀
+
+pub squeezed-more : {b₀ b b₁ : List ℕ} {kept next i : ℕ} → Squeezing b₀ b kept i → i < length b → next ≤ kept + 1 → length b ≡ length b₁ → Squeezing b₀ b₁ next (i + 1)
+squeezed-more s read put stays =
+    record {
+      fewer = omega (arith, put, s .fewer);
+      within = omega (arith, read, stays);
+      same = sym stays ∙ s .same;
+    }
+
+-- the lines of a text are answered up to a place, from which the next newline is at another
+pub record Answering (text out₀ out : List ℕ) (filled at end : ℕ) : Type 0 where
+  pub ordered : at ≤ end
+  pub within : end ≤ length text
+  pub room : filled ≤ length out
+  pub same : length out ≡ length out₀
+
+pub answered-more : {text out₀ out out₁ : List ℕ} {filled filled₁ at end found : ℕ} (past : ℕ) → Answering text out₀ out filled at end → found ≡ end + 1 + past → found ≤ length text → filled₁ ≤ length out₁ → length out ≡ length out₁ → Answering text out₀ out₁ filled₁ (end + 1) found
+answered-more past a newline found put stays =
+    record {
+      ordered = omega (arith, newline);
+      within = found;
+      room = put;
+      same = sym stays ∙ a .same;
+    }
+
+-- between two turns: there is room to read into, and all answers are written
+pub record Standing (state : State) (buffer output : List ℕ) : Type 0 where
+  pub held : state .held < 65536
+  pub filled : state .run .filled ≡ 0
+  pub readable : length buffer ≡ 65536
+  pub writable : length output ≡ 65536
+
+pub turned : {state : State} {b out : List ℕ} (next : State) {b₁ out₁ : List ℕ} → Standing state b out → next .held < length b₁ → next .run .filled ≡ 0 → length b ≡ length b₁ → length out ≡ length out₁ → Standing next b₁ out₁
+turned next s h f kept kept₁ =
+    record {
+      held = omega (arith, h, kept, s .readable);
+      filled = f;
+      readable = sym kept ∙ s .readable;
+      writable = sym kept₁ ∙ s .writable;
+    }
