@@ -1,4 +1,4 @@
--- Laws of the run's buffers: a line's text ends within the output, and what is squeezed stays within the input.
+-- Laws of a run: a line's text ends within the output, and between two turns there is room to read into.
 use Prim.Native.Nat.{ℕ, _+_, _≤_, _<_}
 use mathlib.Core.Path.{_≡_, sym, _∙_, subst}
 use mathlib.Core.List.{List}
@@ -11,20 +11,6 @@ use Rattle.replay.specs.declared.State.{State}
 
 pub ended : {w : Written} {size : ℕ} (at room : ℕ) → w ≡ Bytes size → endBy at w ≤ room → at + size ≤ room
 ended at room e h = subst (λ (w : Written). endBy at w ≤ room) e h
-
--- so many bytes are kept of so many that were read
-pub record Squeezing (b₀ b : List ℕ) (kept i : ℕ) : Type 0 where
-  pub fewer : kept ≤ i
-  pub within : i ≤ length b
-  pub same : length b ≡ length b₀
-
-pub squeezed-more : {b₀ b b₁ : List ℕ} {kept next i : ℕ} → Squeezing b₀ b kept i → i < length b → next ≤ kept + 1 → length b ≡ length b₁ → Squeezing b₀ b₁ next (i + 1)
-squeezed-more s read put stays =
-    record {
-      fewer = omega (arith, put, s .fewer);
-      within = omega (arith, read, stays);
-      same = sym stays ∙ s .same;
-    }
 
 -- the lines of a text are answered up to a place, from which the next newline is at another
 pub record Answering (text out₀ out : List ℕ) (filled at end : ℕ) : Type 0 where

@@ -1,11 +1,13 @@
 // The input buffer: what is left of it goes to its front, and a line that fills it is shortened.
 ghost use Prim.Native.Nat.{_+_, _-_, _≤_, _<_};
 ghost use mathlib.Core.Path.{_≡_};
-ghost use lib.ListN.{length};
+ghost use mathlib.Core.Bool.{false, cond};
+ghost use lib.ListN.{length, take, drop, set};
+ghost use Rattle.replay.specs.Short.{isSpare, squeezed, longest, heldText, heldCut};
 
 const SPACE: u8 = 32;
 
-// No call is longer with one space between its words: the longest has 804 bytes.
+// With one space between its words no call is longer.
 pub const LONGEST: usize = 1024;
 
 // Moves the bytes between two places down to another place, and answers where they end.
@@ -25,30 +27,43 @@ pub fn move_down(buffer: &mut [u8], to: usize, from: usize, end: usize) -> usize
     next
 }
 
-// Puts a byte at a place, and answers the place after it; or leaves it out, and answers the same place.
-fn put_unless(left_out: bool, buffer: &mut [u8], at: usize, byte: u8) -> usize
-    requires { ⌜ at < length (now buffer) ⌝ }
-    ensures { λ r. ⌜ r ≤ at + 1 ⌝ }
+// Whether a byte is a space after another one.
+fn is_spare(byte: u8, after: bool) -> bool
+    ensures { λ r. ⌜ r ≡ isSpare byte after ⌝ }
 {
-    if left_out {
+    if byte == SPACE {
+        return after;
+    }
+    false
+}
+
+// Puts a byte at a place unless it is spare, and answers the place after it.
+fn put_unless(spare: bool, buffer: &mut [u8], at: usize, byte: u8) -> usize
+    requires { ⌜ at < length (now buffer) ⌝ }
+    ensures put { λ _. ⌜ now (buffer .exit) ≡ cond spare (now (buffer .entry)) (set (now (buffer .entry)) at byte) ⌝ }
+    ensures next { λ r. ⌜ r ≡ cond spare at (at + 1) ⌝ }
+{
+    if spare {
         return at;
     }
     buffer[at] = byte;
     at + 1
 }
 
-// Makes one space of every run of spaces, and answers how many bytes are left.
-fn squeeze(buffer: &mut [u8]) -> usize
-    ensures { λ r. ⌜ r ≤ length (now (buffer .exit)) ⌝ }
+// Makes one space of every run of spaces in the buffer's first bytes, and answers how many of them are left.
+fn squeeze(buffer: &mut [u8], size: usize) -> usize
+    requires { ⌜ size ≤ length (now buffer) ⌝ }
+    ensures front { λ r. ⌜ take r (now (buffer .exit)) ≡ squeezed false (take size (now (buffer .entry))) ⌝ }
+    ensures behind { λ _. ⌜ drop size (now (buffer .exit)) ≡ drop size (now (buffer .entry)) ⌝ }
+    ensures fewer { λ r. ⌜ r ≤ size ⌝ }
 {
     let mut kept = 0;
-    let mut after_space = false;
+    let mut after = false;
     let mut i = 0;
-    while i < buffer.len() {
+    while i < size {
         let byte = buffer[i];
-        let is_space = byte == SPACE;
-        kept = put_unless(is_space && after_space, buffer, kept, byte);
-        after_space = is_space;
+        kept = put_unless(is_spare(byte, after), buffer, kept, byte);
+        after = byte == SPACE;
         i += 1;
     }
     kept
@@ -60,11 +75,13 @@ pub struct Held {
     pub cut: bool,
 }
 
-// Makes room behind what is held. A line that fills the buffer has its spaces squeezed, which changes no call; one that is still longer than any call is cut, and is no call, or a comment, by what is left of it.
+// Makes room behind what is held. A line that fills the buffer has its spaces squeezed; one that is still longer than any call is cut. Either way it stays the call that it is.
 pub fn hold(buffer: &mut [u8], held: usize) -> Held
-    requires { ⌜ held ≤ length (now buffer) ⌝ }
-    requires { ⌜ 1025 < length (now buffer) ⌝ }
-    ensures { λ r. ⌜ r .size < length (now (buffer .exit)) ⌝ }
+    requires held { ⌜ held ≤ length (now buffer) ⌝ }
+    requires room { ⌜ longest < length (now buffer) ⌝ }
+    ensures room { λ r. ⌜ r .size < length (now (buffer .exit)) ⌝ }
+    ensures text { λ r. ⌜ take (r .size) (now (buffer .exit)) ≡ heldText held (now (buffer .entry)) ⌝ }
+    ensures cut { λ r. ⌜ r .cut ≡ heldCut held (now (buffer .entry)) ⌝ }
 {
     if held < buffer.len() {
         return Held {
@@ -72,15 +89,17 @@ pub fn hold(buffer: &mut [u8], held: usize) -> Held
             cut: false,
         };
     }
-    let kept = squeeze(buffer);
-    if kept <= LONGEST {
+    let last = buffer.len() - 1;
+    let kept = squeeze(buffer, last);
+    buffer[kept] = buffer[last];
+    if kept < LONGEST {
         return Held {
-            size: kept,
+            size: kept + 1,
             cut: false,
         };
     }
     Held {
-        size: LONGEST + 1,
+        size: LONGEST,
         cut: true,
     }
 }
