@@ -4,7 +4,7 @@ ghost use mathlib.Core.List.{[]};
 ghost use Prim.Native.Nat.{_≤_};
 ghost use lib.ListN.{length, take, drop};
 ghost use Rattle.line.specs.Words.{words};
-ghost use Rattle.line.specs.Lines.{alone, withBytes, requestCall, cancelCall, switchCall, getPairedCall, ledCall, listCall, frameCall, called, table, otherRows, callOf, withoutReturn, lineRule};
+ghost use Rattle.line.specs.Lines.{alone, withBytes, requestCall, cancelCall, switchCall, getPairedCall, ledCall, listCall, frameCall, called, table, otherRows, writerRows, callOf, withoutReturn, lineRule};
 ghost use Rattle.line.specs.Meaning.{commandOf, meaning, Parses};
 use fields::NextByte;
 use fields::NextLent;
@@ -13,9 +13,9 @@ use fields::NextTarget;
 use report::Device;
 use report::FeatureIndex;
 
-pub mod fields;
-pub mod values;
-pub mod words;
+mod fields;
+mod values;
+mod words;
 
 const RETURN: u8 = 13;
 
@@ -275,6 +275,25 @@ fn other_call(name: &[u8], line: &[u8], at: usize) -> Parsed
     bare(Command::NoCall)
 }
 
+// The calls that write into a lent buffer, but a request; and those after them in the table.
+fn writer_call(name: &[u8], line: &[u8], at: usize) -> Parsed
+    ensures { λ r. ⌜ Parses (called writerRows (now (name .entry)) (words (drop at (now (line .entry))))) r ⌝ }
+{
+    if words::is_word(name, b"switch") {
+        return switch_call(line, at);
+    }
+    if words::is_word(name, b"get-paired") {
+        return get_paired_call(line, at);
+    }
+    if words::is_word(name, b"led") {
+        return led_call(line, at);
+    }
+    if words::is_word(name, b"list") {
+        return list_call(line, at);
+    }
+    other_call(name, line, at)
+}
+
 // The call of this name, whose other words stand from `at` on.
 fn named_call(name: &[u8], line: &[u8], at: usize) -> Parsed
     ensures { λ r. ⌜ Parses (called table (now (name .entry)) (words (drop at (now (line .entry))))) r ⌝ }
@@ -291,19 +310,7 @@ fn named_call(name: &[u8], line: &[u8], at: usize) -> Parsed
     if words::is_word(name, b"tick") {
         return alone_at(Command::Tick, line, at);
     }
-    if words::is_word(name, b"switch") {
-        return switch_call(line, at);
-    }
-    if words::is_word(name, b"get-paired") {
-        return get_paired_call(line, at);
-    }
-    if words::is_word(name, b"led") {
-        return led_call(line, at);
-    }
-    if words::is_word(name, b"list") {
-        return list_call(line, at);
-    }
-    other_call(name, line, at)
+    writer_call(name, line, at)
 }
 
 fn parse_call(text: &[u8]) -> Parsed
