@@ -1,5 +1,5 @@
 -- `line::writer_call` meets its contract: each test is a row of the table.
-use Rattle.line.specs.Lines.{writerRows}
+use Rattle.line.specs.Lines.{getPairedCall, listCall, writerRows}
 use mathlib.Core.Path.{sym, _∙_}
 use Rattle.line.specs.LinesLaws.{retold}
 use borrow.Author.Needs.{needs}
@@ -25,12 +25,12 @@ slice-aggregate-is-word-2 c = search needs
 is-word-requires-2 : tie.Need-is-word-requires-2
 is-word-requires-2 c κs = search needs
 
-get-paired-call-requires : tie.Need-get-paired-call-requires
-get-paired-call-requires c κs = search needs
+lent-alone-requires : tie.Need-lent-alone-requires
+lent-alone-requires c κs = search needs
 
 returns-2 : tie.Need-returns-2
-unfolding writerRows
-returns-2 c = retold (c .get-paired-call .ensures) (simp (sym (c .before .before .before .before .before .is-word .ensures) ∙ c .before .before .before .before .if1 .left, sym (c .before .before .is-word2 .ensures) ∙ c .before .if2 .taken))
+unfolding writerRows getPairedCall
+returns-2 c = retold (c .lent-alone .ensures) (simp (sym (c .before .before .before .before .before .is-word .ensures) ∙ c .before .before .before .before .if1 .left, sym (c .before .before .is-word2 .ensures) ∙ c .before .if2 .taken))
 
 slice-aggregate-is-word-3 : tie.Need-slice-aggregate-is-word-3
 slice-aggregate-is-word-3 c = search needs
@@ -51,12 +51,12 @@ slice-aggregate-is-word-4 c = search needs
 is-word-requires-4 : tie.Need-is-word-requires-4
 is-word-requires-4 c κs = search needs
 
-list-call-requires : tie.Need-list-call-requires
-list-call-requires c κs = search needs
+lent-alone-requires-2 : tie.Need-lent-alone-requires-2
+lent-alone-requires-2 c κs = search needs
 
 returns-4 : tie.Need-returns-4
-unfolding writerRows
-returns-4 c = retold (c .list-call .ensures) (simp (sym (c .before .before .before .before .before .before .before .before .before .before .before .is-word .ensures) ∙ c .before .before .before .before .before .before .before .before .before .before .if1 .left, sym (c .before .before .before .before .before .before .before .before .is-word2 .ensures) ∙ c .before .before .before .before .before .before .before .if2 .left, sym (c .before .before .before .before .before .is-word3 .ensures) ∙ c .before .before .before .before .if3 .left, sym (c .before .before .is-word4 .ensures) ∙ c .before .if4 .taken))
+unfolding writerRows listCall
+returns-4 c = retold (c .lent-alone2 .ensures) (simp (sym (c .before .before .before .before .before .before .before .before .before .before .before .is-word .ensures) ∙ c .before .before .before .before .before .before .before .before .before .before .if1 .left, sym (c .before .before .before .before .before .before .before .before .is-word2 .ensures) ∙ c .before .before .before .before .before .before .before .if2 .left, sym (c .before .before .before .before .before .is-word3 .ensures) ∙ c .before .before .before .before .if3 .left, sym (c .before .before .is-word4 .ensures) ∙ c .before .if4 .taken))
 
 other-call-requires : tie.Need-other-call-requires
 other-call-requires c κs = search needs
@@ -75,7 +75,7 @@ writer-call-spec =
     returns
     slice-aggregate-is-word-2
     is-word-requires-2
-    get-paired-call-requires
+    lent-alone-requires
     returns-2
     slice-aggregate-is-word-3
     is-word-requires-3
@@ -83,7 +83,7 @@ writer-call-spec =
     returns-3
     slice-aggregate-is-word-4
     is-word-requires-4
-    list-call-requires
+    lent-alone-requires-2
     returns-4
     other-call-requires
     returns-5)

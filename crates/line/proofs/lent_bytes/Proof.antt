@@ -1,12 +1,11 @@
--- `line::list_call` meets its contract.
+-- `line::lent_bytes` meets its contract.
 use mathlib.Core.Path.{sym, _∙_}
 use mathlib.Core.Path.{ap}
 use Rattle.line.specs.Answers.{lentRead}
-use Rattle.line.specs.Lines.{listCall}
 use Rattle.line.specs.LinesLaws.{retold}
 use borrow.Author.Needs.{needs}
-use Rattle.line.proofs.list_call.Statement.{statement}
-use Rattle.line.proofs.list_call.Tie as tie
+use Rattle.line.proofs.lent_bytes.Statement.{statement}
+use Rattle.line.proofs.lent_bytes.Tie as tie
 
 next-lent-requires : tie.Need-next-lent-requires
 next-lent-requires c κs = search needs
@@ -21,18 +20,16 @@ bare-requires : tie.Need-bare-requires
 bare-requires c κs = search needs
 
 returns : tie.Need-returns
-unfolding listCall
 returns c = retold (c .bare .ensures) (simp ((sym (c .before .before .before .next-lent .ensures) ∙ ap (lentRead (c .before .before .before .before .before .args .line .now)) (c .before .enum-told .given .1))))
 
-alone-at-requires : tie.Need-alone-at-requires
-alone-at-requires c κs = search needs
+with-bytes-requires : tie.Need-with-bytes-requires
+with-bytes-requires c κs = search needs
 
 returns-2 : tie.Need-returns-2
-unfolding listCall
-returns-2 c = retold (c .alone-at .ensures) (simp ((sym (c .before .before .before .before .next-lent .ensures) ∙ ap (lentRead (c .before .before .before .before .before .before .args .line .now)) (c .before .before .place .given .1))))
+returns-2 c = retold (c .with-bytes .ensures) (simp ((sym (c .before .before .before .before .next-lent .ensures) ∙ ap (lentRead (c .before .before .before .before .before .before .args .line .now)) (c .before .before .place .given .1))))
 
-pub list-call-spec : {M : Type 1} → statement M
-list-call-spec =
+pub lent-bytes-spec : {M : Type 1} → statement M
+lent-bytes-spec =
     tie.close
     (tie.spec
     next-lent-requires
@@ -40,5 +37,5 @@ list-call-spec =
     enum-told
     bare-requires
     returns
-    alone-at-requires
+    with-bytes-requires
     returns-2)
