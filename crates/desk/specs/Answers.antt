@@ -12,8 +12,9 @@ use Rattle.sequence.specs.Steps as steps
 use Rattle.line.specs.Commands as commands
 use Rattle.line.specs.Commands.{Command}
 use Rattle.line.specs.Lines.{lineRule}
-use Rattle.render.specs.Lines.{takenText, writtenText, cancelledText, endedText, readingText, movedText, noCallText}
-use Rattle.render.specs.Dump.{dumpText}
+use Rattle.taken.specs.Lines.{takenText}
+use Rattle.render.specs.Lines.{writtenText, cancelledText, endedText, readingText, movedText, noCallText}
+use Rattle.dump.specs.Dump.{dumpText}
 
 -- its text, and the next station
 pub record Answer : Type 0 where

@@ -30,8 +30,9 @@ use Rattle.line.specs.Commands.{Command}
 use Rattle.line.specs.Lines.{lineRule}
 use Rattle.line.specs.Meaning.{writerOf}
 use Rattle.line.specs.RoomLaws.{roomOf, line-fits}
-use Rattle.render.specs.Lines.{takenText, writtenText, cancelledText, endedText}
-use Rattle.render.specs.Placing as placing
+use Rattle.fields.specs.Placing as placing
+use Rattle.taken.specs.Lines.{takenText}
+use Rattle.render.specs.Lines.{writtenText, writtenMost, cancelledText, endedText}
 use Rattle.desk.specs.declared.Shown.{Shown}
 use Rattle.desk.specs.Answers.{Answer, keeping, saidText, stepped, lentBuffer, commandRule, answerRoom, put, answerRule}
 use Rattle.desk.specs.Meaning.{Shows, writerRule, writtenBy}
@@ -67,7 +68,7 @@ module _ (at : ℕ) (b : List ℕ) (room : writing.fitsAt answerRoom at (length 
       shown _ _ (lit≤ tt) e (ap (λ (o : TickOutcome). endedText (o .ended)) p) (ap (λ (o : TickOutcome). o .station) p)
 
   -- a writer's: three bytes of text for each lent one
-  pub written-shown : {next : ℕ} {b₁ : List ℕ} (o : RequestOutcome) (t : RequestResult) (after : List ℕ) → length after ≤ 4096 → requestOutcome t after ≡ o → filled next b₁ ≡ placing.lineRule (placing.writtenMost after) (writtenText (writing.meaning (t .answer)) after) at b → Shows (writtenBy o) at b (record { next = next; station = t .station }) b₁
+  pub written-shown : {next : ℕ} {b₁ : List ℕ} (o : RequestOutcome) (t : RequestResult) (after : List ℕ) → length after ≤ 4096 → requestOutcome t after ≡ o → filled next b₁ ≡ placing.lineRule (writtenMost after) (writtenText (writing.meaning (t .answer)) after) at b → Shows (writtenBy o) at b (record { next = next; station = t .station }) b₁
   written-shown o t after small p e =
       shown _ _ (omega (arith, small)) e (ap (λ (o : RequestOutcome). writtenText (o .answer) (o .lent)) p) (ap (λ (o : RequestOutcome). o .station) p)
 

@@ -48,7 +48,7 @@ fn take(station: Station, bytes: &[u8], buffer: &mut [u8], at: usize) -> Shown
     let answer = taken.answer;
     let after = taken.station;
     Shown {
-        next: render::put_taken(buffer, at, answer),
+        next: taken::put_taken(buffer, at, answer),
         station: after,
     }
 }
@@ -186,7 +186,7 @@ fn respond(
         Command::Tick => return tick(station, buffer, at),
         Command::Read => render::put_reading(buffer, at, report::read(bytes)),
         Command::Mouse => render::put_moved(buffer, at, mouse::movement(bytes)),
-        Command::Dump => render::put_dump(buffer, at, station),
+        Command::Dump => dump::put_dump(buffer, at, station),
         Command::Write {
             writer,
             place,

@@ -6,7 +6,7 @@ use Rattle.line.specs.Words.{words, wordsAfter, sameWord}
 use Rattle.line.specs.Values.{hexByte, hexDigit, number, digitsAfter, allDigits, valueAfter}
 use Rattle.line.specs.Fields.{target, lent, bytesOf}
 use Rattle.line.specs.Commands.{blank, noCall, take, request, cancel, tick, switch, getPaired, led, list, read, frame, mouse, dump}
-use Rattle.line.specs.Lines.{lineRule, textRule, withoutReturn, withBytes, requestCall, cancelCall, switchCall, getPairedCall, ledCall, listCall, frameCall, otherRows}
+use Rattle.line.specs.Lines.{lineRule, textRule, withoutReturn, withBytes, requestCall, cancelCall, switchCall, getPairedCall, ledCall, listCall, frameCall, otherRows, writerRows}
 
 -- the lines of the page
 record Page : Type 0 where
@@ -15,7 +15,7 @@ record Page : Type 0 where
   listed : lineRule (ascii "list 0 64") ≡ list 0 64
 
 page : Page
-unfolding lineRule textRule withoutReturn words wordsAfter sameWord hexByte hexDigit number digitsAfter allDigits valueAfter target lent bytesOf withBytes requestCall cancelCall switchCall getPairedCall ledCall listCall frameCall otherRows
+unfolding lineRule textRule withoutReturn words wordsAfter sameWord hexByte hexDigit number digitsAfter allDigits valueAfter target lent bytesOf withBytes requestCall cancelCall switchCall getPairedCall ledCall listCall frameCall otherRows writerRows
 page =
     record {
       asked = refl;
@@ -47,7 +47,7 @@ record Edges : Type 0 where
   lower-case : lineRule (ascii "take 20 02 41 0e" ++ (13 ∷ [])) ≡ take (0x20 ∷ 0x02 ∷ 0x41 ∷ 0x0e ∷ [])
 
 edges : Edges
-unfolding lineRule textRule withoutReturn words wordsAfter sameWord hexByte hexDigit number digitsAfter allDigits valueAfter target lent bytesOf withBytes requestCall cancelCall switchCall getPairedCall ledCall listCall frameCall otherRows
+unfolding lineRule textRule withoutReturn words wordsAfter sameWord hexByte hexDigit number digitsAfter allDigits valueAfter target lent bytesOf withBytes requestCall cancelCall switchCall getPairedCall ledCall listCall frameCall otherRows writerRows
 edges =
     record {
       comment = refl;
@@ -89,7 +89,7 @@ record Ends : Type 0 where
   dumped : lineRule (ascii "dump") ≡ dump
 
 ends : Ends
-unfolding lineRule textRule withoutReturn words wordsAfter sameWord hexByte hexDigit number digitsAfter allDigits valueAfter target lent bytesOf withBytes requestCall cancelCall switchCall getPairedCall ledCall listCall frameCall otherRows
+unfolding lineRule textRule withoutReturn words wordsAfter sameWord hexByte hexDigit number digitsAfter allDigits valueAfter target lent bytesOf withBytes requestCall cancelCall switchCall getPairedCall ledCall listCall frameCall otherRows writerRows
 ends =
     record {
       return-alone = refl;

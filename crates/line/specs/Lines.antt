@@ -84,17 +84,22 @@ otherRows =
     ∷ row "dump" (alone dump)
     ∷ []
 
+-- what writes into a lent buffer, but a request
+unfoldable pub writerRows : List Row
+writerRows =
+    row "switch" switchCall
+    ∷ row "get-paired" getPairedCall
+    ∷ row "led" ledCall
+    ∷ row "list" listCall
+    ∷ otherRows
+
 abbrev pub table : List Row
 table =
     row "take" (withBytes take)
     ∷ row "request" requestCall
     ∷ row "cancel" cancelCall
     ∷ row "tick" (alone tick)
-    ∷ row "switch" switchCall
-    ∷ row "get-paired" getPairedCall
-    ∷ row "led" ledCall
-    ∷ row "list" listCall
-    ∷ otherRows
+    ∷ writerRows
 
 -- the row of a name; no call where there is none
 abbrev pub called : List Row → List ℕ → List (List ℕ) → Command

@@ -17,7 +17,7 @@ use Rattle.line.specs.WordsLaws.{part, wordFrom, NextWord}
 use Rattle.line.specs.Fields.{bytesOf, limited}
 use Rattle.line.specs.Answers.{Lists}
 use Rattle.line.specs.Commands.{Command, blank, noCall}
-use Rattle.line.specs.Lines.{given, withBytes, otherRows, table, called, callOf, withoutReturn, textRule, lineRule}
+use Rattle.line.specs.Lines.{given, withBytes, otherRows, writerRows, table, called, callOf, withoutReturn, textRule, lineRule}
 use Rattle.line.specs.Meaning.{commandOf, meaning, Parses}
 
 -- the same command said in another way
@@ -40,7 +40,7 @@ cut line h = sym (ap (λ (t : Bool). cond t (take (length line - 1) line) line) 
 
 -- a text without a word has no name of the table
 by-name : (name : List ℕ) (following : List (List ℕ)) → callOf (wordFrom name following) ≡ called table name following
-unfolding sameWord otherRows
+unfolding sameWord otherRows writerRows
 by-name [] following = refl
 by-name (c ∷ name) following = refl
 

@@ -8,6 +8,8 @@ use Rattle.line.specs.declared.Command.the-variants.{Blank, NoCall, Take
 use Rattle.line.specs.declared.Writer.{Writer}
 use Rattle.line.specs.declared.Writer.the-variants.{Request, Switch, GetPaired, Led, List, Frame}
 use Rattle.line.specs.declared.Parsed.{Parsed}
+use Rattle.line.specs.Fields.{andThen, lent}
+use Rattle.line.specs.Lines.{alone, withBytes}
 use Rattle.line.specs.Commands as rules
 use Rattle.line.specs.Commands.{Command}
 
@@ -21,6 +23,18 @@ writerOf (Led port leds) place room bytes = rules.led (port .0) leds place room
 writerOf List place room bytes = rules.list place room
 writerOf (Frame port byte2 byte3) place room bytes =
     rules.frame (port .0) (byte2 .0) byte3 place room bytes
+
+-- a writer whose place and length come next, and no word more
+abbrev pub lentAlone : Writer → lists.List (lists.List ℕ) → Command
+lentAlone writer words =
+    andThen (lent words) rules.noCall λ at words.
+    alone (writerOf writer (at .place) (at .room) lists.[]) words
+
+-- a writer whose place and length come next, and then its parameters
+abbrev pub lentBytes : Writer → lists.List (lists.List ℕ) → Command
+lentBytes writer words =
+    andThen (lent words) rules.noCall λ at words.
+    withBytes (writerOf writer (at .place) (at .room)) words
 
 -- a command of the program with the bytes beside it
 abbrev pub commandOf : program.Command → lists.List ℕ → Command

@@ -14,7 +14,7 @@ use Rattle.line.specs.Values.{hexByte, number}
 use Rattle.line.specs.Fields.{Read, nothing, got, valued, first, andThen, upTo, roomNumber, portNumber, target, Lent, lent, limited, bytesOf}
 use Rattle.line.specs.Commands as commands
 use Rattle.line.specs.Commands.{Command}
-use Rattle.line.specs.Lines.{alone, given, withBytes, requestCall, cancelCall, switchCall, getPairedCall, ledCall, listCall, frameCall, Row, otherRows, table, called, callOf, withoutReturn, textRule, lineRule}
+use Rattle.line.specs.Lines.{alone, given, withBytes, requestCall, cancelCall, switchCall, getPairedCall, ledCall, listCall, frameCall, Row, otherRows, writerRows, table, called, callOf, withoutReturn, textRule, lineRule}
 
 -- the length of the lent buffer; 0 where none is lent
 abbrev pub roomOf : Command → ℕ
@@ -158,16 +158,16 @@ others-fit =
     (a-row (λ given. bytes-fit commands.mouse given λ bytes. nothing-lent refl)
     (a-row (λ given. alone-fits commands.dump given (nothing-lent refl)) no-row)))
 
+writers-fit : AllFit writerRows
+unfolding writerRows
+writers-fit = a-row switch-fits (a-row get-paired-fits (a-row led-fits (a-row list-fits others-fit)))
+
 table-fits : AllFit table
 table-fits =
     a-row (λ given. bytes-fit commands.take given λ bytes. nothing-lent refl)
     (a-row request-fits
     (a-row cancel-fits
-    (a-row (λ given. alone-fits commands.tick given (nothing-lent refl))
-    (a-row switch-fits
-    (a-row get-paired-fits
-    (a-row led-fits
-    (a-row list-fits others-fit)))))))
+    (a-row (λ given. alone-fits commands.tick given (nothing-lent refl)) writers-fit)))
 
 call-fits : (given : List (List ℕ)) → Fits (callOf given)
 call-fits [] = nothing-lent refl

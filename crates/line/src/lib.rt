@@ -4,8 +4,8 @@ ghost use mathlib.Core.List.{[]};
 ghost use Prim.Native.Nat.{_≤_};
 ghost use lib.ListN.{length, take, drop};
 ghost use Rattle.line.specs.Words.{words};
-ghost use Rattle.line.specs.Lines.{alone, withBytes, requestCall, cancelCall, switchCall, getPairedCall, ledCall, listCall, frameCall, called, table, otherRows, callOf, withoutReturn, lineRule};
-ghost use Rattle.line.specs.Meaning.{commandOf, meaning, Parses};
+ghost use Rattle.line.specs.Lines.{alone, withBytes, requestCall, cancelCall, switchCall, ledCall, frameCall, called, table, otherRows, writerRows, callOf, withoutReturn, lineRule};
+ghost use Rattle.line.specs.Meaning.{lentAlone, lentBytes, commandOf, meaning, Parses};
 use fields::NextByte;
 use fields::NextLent;
 use fields::NextNumber;
@@ -13,9 +13,9 @@ use fields::NextTarget;
 use report::Device;
 use report::FeatureIndex;
 
-pub mod fields;
-pub mod values;
-pub mod words;
+mod fields;
+mod values;
+mod words;
 
 const RETURN: u8 = 13;
 
@@ -110,6 +110,36 @@ fn with_bytes(command: Command, line: &[u8], at: usize) -> Parsed
     bare(Command::NoCall)
 }
 
+// A writer after which the place and the length of its lent buffer stand, and no word more.
+fn lent_alone(writer: Writer, line: &[u8], at: usize) -> Parsed
+    ensures { λ r. ⌜ Parses (lentAlone writer (words (drop at (now (line .entry))))) r ⌝ }
+{
+    let NextLent::Lent { place, room, next } = fields::next_lent(line, at) else {
+        return bare(Command::NoCall);
+    };
+    let command = Command::Write {
+        writer,
+        place,
+        room,
+    };
+    alone_at(command, line, next)
+}
+
+// A writer after which they stand, and then its parameters.
+fn lent_bytes(writer: Writer, line: &[u8], at: usize) -> Parsed
+    ensures { λ r. ⌜ Parses (lentBytes writer (words (drop at (now (line .entry))))) r ⌝ }
+{
+    let NextLent::Lent { place, room, next } = fields::next_lent(line, at) else {
+        return bare(Command::NoCall);
+    };
+    let command = Command::Write {
+        writer,
+        place,
+        room,
+    };
+    with_bytes(command, line, next)
+}
+
 fn request_call(line: &[u8], at: usize) -> Parsed
     ensures { λ r. ⌜ Parses (requestCall (words (drop at (now (line .entry))))) r ⌝ }
 {
@@ -125,21 +155,13 @@ fn request_call(line: &[u8], at: usize) -> Parsed
     let NextNumber::Number { value: ticks, next } = fields::next_number(line, next) else {
         return bare(Command::NoCall);
     };
-    let NextLent::Lent { place, room, next } = fields::next_lent(line, next) else {
-        return bare(Command::NoCall);
-    };
     let writer = Writer::Request {
         port,
         byte2,
         byte3,
         ticks,
     };
-    let command = Command::Write {
-        writer,
-        place,
-        room,
-    };
-    with_bytes(command, line, next)
+    lent_bytes(writer, line, next)
 }
 
 fn cancel_call(line: &[u8], at: usize) -> Parsed
@@ -170,29 +192,7 @@ fn switch_call(line: &[u8], at: usize) -> Parsed
     else {
         return bare(Command::NoCall);
     };
-    let NextLent::Lent { place, room, next } = fields::next_lent(line, next) else {
-        return bare(Command::NoCall);
-    };
-    let command = Command::Write {
-        writer: Writer::Switch { bits, timeout },
-        place,
-        room,
-    };
-    alone_at(command, line, next)
-}
-
-fn get_paired_call(line: &[u8], at: usize) -> Parsed
-    ensures { λ r. ⌜ Parses (getPairedCall (words (drop at (now (line .entry))))) r ⌝ }
-{
-    let NextLent::Lent { place, room, next } = fields::next_lent(line, at) else {
-        return bare(Command::NoCall);
-    };
-    let command = Command::Write {
-        writer: Writer::GetPaired,
-        place,
-        room,
-    };
-    alone_at(command, line, next)
+    lent_alone(Writer::Switch { bits, timeout }, line, next)
 }
 
 fn led_call(line: &[u8], at: usize) -> Parsed
@@ -204,33 +204,11 @@ fn led_call(line: &[u8], at: usize) -> Parsed
     let NextByte::Byte { value: leds, next } = fields::next_byte(line, next) else {
         return bare(Command::NoCall);
     };
-    let NextLent::Lent { place, room, next } = fields::next_lent(line, next) else {
-        return bare(Command::NoCall);
-    };
     let writer = Writer::Led {
         port: Device(port),
         leds,
     };
-    let command = Command::Write {
-        writer,
-        place,
-        room,
-    };
-    alone_at(command, line, next)
-}
-
-fn list_call(line: &[u8], at: usize) -> Parsed
-    ensures { λ r. ⌜ Parses (listCall (words (drop at (now (line .entry))))) r ⌝ }
-{
-    let NextLent::Lent { place, room, next } = fields::next_lent(line, at) else {
-        return bare(Command::NoCall);
-    };
-    let command = Command::Write {
-        writer: Writer::List,
-        place,
-        room,
-    };
-    alone_at(command, line, next)
+    lent_alone(writer, line, next)
 }
 
 fn frame_call(line: &[u8], at: usize) -> Parsed
@@ -245,15 +223,7 @@ fn frame_call(line: &[u8], at: usize) -> Parsed
     else {
         return bare(Command::NoCall);
     };
-    let NextLent::Lent { place, room, next } = fields::next_lent(line, next) else {
-        return bare(Command::NoCall);
-    };
-    let command = Command::Write {
-        writer: Writer::Frame { port, byte2, byte3 },
-        place,
-        room,
-    };
-    with_bytes(command, line, next)
+    lent_bytes(Writer::Frame { port, byte2, byte3 }, line, next)
 }
 
 // The calls that need no station, and the dump.
@@ -275,6 +245,25 @@ fn other_call(name: &[u8], line: &[u8], at: usize) -> Parsed
     bare(Command::NoCall)
 }
 
+// The calls that write into a lent buffer, but a request; and those after them in the table.
+fn writer_call(name: &[u8], line: &[u8], at: usize) -> Parsed
+    ensures { λ r. ⌜ Parses (called writerRows (now (name .entry)) (words (drop at (now (line .entry))))) r ⌝ }
+{
+    if words::is_word(name, b"switch") {
+        return switch_call(line, at);
+    }
+    if words::is_word(name, b"get-paired") {
+        return lent_alone(Writer::GetPaired, line, at);
+    }
+    if words::is_word(name, b"led") {
+        return led_call(line, at);
+    }
+    if words::is_word(name, b"list") {
+        return lent_alone(Writer::List, line, at);
+    }
+    other_call(name, line, at)
+}
+
 // The call of this name, whose other words stand from `at` on.
 fn named_call(name: &[u8], line: &[u8], at: usize) -> Parsed
     ensures { λ r. ⌜ Parses (called table (now (name .entry)) (words (drop at (now (line .entry))))) r ⌝ }
@@ -291,19 +280,7 @@ fn named_call(name: &[u8], line: &[u8], at: usize) -> Parsed
     if words::is_word(name, b"tick") {
         return alone_at(Command::Tick, line, at);
     }
-    if words::is_word(name, b"switch") {
-        return switch_call(line, at);
-    }
-    if words::is_word(name, b"get-paired") {
-        return get_paired_call(line, at);
-    }
-    if words::is_word(name, b"led") {
-        return led_call(line, at);
-    }
-    if words::is_word(name, b"list") {
-        return list_call(line, at);
-    }
-    other_call(name, line, at)
+    writer_call(name, line, at)
 }
 
 fn parse_call(text: &[u8]) -> Parsed

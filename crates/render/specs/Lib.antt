@@ -1,9 +1,2 @@
-pub mod Fields
 pub mod Lines
-pub mod Dump
-pub mod Placing
-pub mod PutsLaws
-pub mod PartsLaws
-pub mod EachLaws
-pub mod DumpLaws
 pub mod Examples

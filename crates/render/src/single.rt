@@ -3,11 +3,10 @@ ghost use Rattle.report.specs.Reading as reading;
 ghost use Rattle.mouse.specs.Movement as movement;
 ghost use Rattle.port.specs.Waiting.{cancelOf};
 ghost use Rattle.text.specs.Words.{decimal};
-ghost use Rattle.render.specs.Fields.{each, spaced};
+ghost use Rattle.fields.specs.Fields.{each, spaced};
 ghost use Rattle.render.specs.Lines.{cancelledText, endedText, reportText, readingText, movedText, noCallText};
-ghost use Rattle.render.specs.Placing.{answerMost};
-ghost use Rattle.render.specs.PutsLaws.{Puts};
-use crate::parts;
+ghost use Rattle.fields.specs.Placing.{answerMost};
+ghost use Rattle.fields.specs.PutsLaws.{Puts};
 use mouse::Motion;
 use mouse::Moved;
 use port::waiting::Cancelled;
@@ -18,7 +17,7 @@ pub fn cancelled(buffer: &mut [u8], at: usize, answer: Cancelled) -> usize
     ensures { λ r. ⌜ Puts answerMost (cancelledText (cancelOf answer)) at (now (buffer .entry)) r (now (buffer .exit)) ⌝ }
 {
     match answer {
-        Cancelled::Refused(refusal) => parts::put_refused(buffer, at, refusal),
+        Cancelled::Refused(refusal) => fields::put_refused(buffer, at, refusal),
         Cancelled::Done => text::put_word(buffer, at, b"cancelled\n"),
     }
 }
@@ -30,7 +29,7 @@ fn put_counts(buffer: &mut [u8], at: usize, counts: [u8; 7]) -> usize
     let mut next = at;
     let mut i = 0;
     while i < station::PORTS {
-        next = parts::put_number(buffer, next, b" ", counts[i]);
+        next = fields::put_number(buffer, next, b" ", counts[i]);
         i += 1;
     }
     next
@@ -56,12 +55,12 @@ fn put_report(
 ) -> usize
     ensures { λ r. ⌜ Puts answerMost (reportText id (device .0) byte2 byte3 start length) at (now (buffer .entry)) r (now (buffer .exit)) ⌝ }
 {
-    let at = parts::put_code(buffer, at, b"report id=", id);
-    let at = parts::put_code(buffer, at, b" device=", device.0);
-    let at = parts::put_code(buffer, at, b" byte2=", byte2);
-    let at = parts::put_code(buffer, at, b" byte3=", byte3);
-    let at = parts::put_number(buffer, at, b" start=", start);
-    let at = parts::put_number(buffer, at, b" length=", length);
+    let at = fields::put_code(buffer, at, b"report id=", id);
+    let at = fields::put_code(buffer, at, b" device=", device.0);
+    let at = fields::put_code(buffer, at, b" byte2=", byte2);
+    let at = fields::put_code(buffer, at, b" byte3=", byte3);
+    let at = fields::put_number(buffer, at, b" start=", start);
+    let at = fields::put_number(buffer, at, b" length=", length);
     text::put_byte(buffer, at, b'\n')
 }
 
@@ -69,7 +68,7 @@ pub fn read(buffer: &mut [u8], at: usize, answer: Reading) -> usize
     ensures { λ r. ⌜ Puts answerMost (readingText (reading.meaning answer)) at (now (buffer .entry)) r (now (buffer .exit)) ⌝ }
 {
     match answer {
-        Reading::Refused(refusal) => parts::put_refused(buffer, at, refusal),
+        Reading::Refused(refusal) => fields::put_refused(buffer, at, refusal),
         Reading::Hidpp(h) => {
             let device = h.device;
             let byte2 = h.byte2;
@@ -94,11 +93,11 @@ pub fn read(buffer: &mut [u8], at: usize, answer: Reading) -> usize
 fn put_motion(buffer: &mut [u8], at: usize, m: Motion) -> usize
     ensures { λ r. ⌜ Puts answerMost (movedText (movement.moved (m .buttons) (m .x) (m .y) (m .wheel) (m .pan))) at (now (buffer .entry)) r (now (buffer .exit)) ⌝ }
 {
-    let at = parts::put_wide(buffer, at, b"moved buttons=", 4, m.buttons as usize);
-    let at = parts::put_signed(buffer, at, b" x=", m.x);
-    let at = parts::put_signed(buffer, at, b" y=", m.y);
-    let at = parts::put_signed(buffer, at, b" wheel=", m.wheel as i16);
-    let at = parts::put_signed(buffer, at, b" pan=", m.pan as i16);
+    let at = fields::put_wide(buffer, at, b"moved buttons=", 4, m.buttons as usize);
+    let at = fields::put_signed(buffer, at, b" x=", m.x);
+    let at = fields::put_signed(buffer, at, b" y=", m.y);
+    let at = fields::put_signed(buffer, at, b" wheel=", m.wheel as i16);
+    let at = fields::put_signed(buffer, at, b" pan=", m.pan as i16);
     text::put_byte(buffer, at, b'\n')
 }
 
@@ -106,7 +105,7 @@ pub fn moved(buffer: &mut [u8], at: usize, answer: Moved) -> usize
     ensures { λ r. ⌜ Puts answerMost (movedText (movement.meaning answer)) at (now (buffer .entry)) r (now (buffer .exit)) ⌝ }
 {
     match answer {
-        Moved::Refused(refusal) => parts::put_refused(buffer, at, refusal),
+        Moved::Refused(refusal) => fields::put_refused(buffer, at, refusal),
         Moved::By(m) => put_motion(buffer, at, m),
     }
 }
@@ -114,6 +113,6 @@ pub fn moved(buffer: &mut [u8], at: usize, answer: Moved) -> usize
 pub fn no_call(buffer: &mut [u8], at: usize, number: usize) -> usize
     ensures { λ r. ⌜ Puts answerMost (noCallText number) at (now (buffer .entry)) r (now (buffer .exit)) ⌝ }
 {
-    let at = parts::put_count(buffer, at, b"line ", number);
+    let at = fields::put_count(buffer, at, b"line ", number);
     text::put_word(buffer, at, b" is no call\n")
 }

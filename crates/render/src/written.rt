@@ -3,10 +3,8 @@ ghost use mathlib.Core.Path.{_≡_};
 ghost use Prim.Native.Nat.{_+_, _*_};
 ghost use lib.ListN.{length};
 ghost use Rattle.frame.specs.Writing.{fitsAt, meaning};
-ghost use Rattle.render.specs.Lines.{lentText, writtenText, outcomeText};
-ghost use Rattle.render.specs.Placing.{writtenMost};
-ghost use Rattle.render.specs.PutsLaws.{Puts};
-use crate::parts;
+ghost use Rattle.render.specs.Lines.{lentText, writtenText, writtenMost, outcomeText};
+ghost use Rattle.fields.specs.PutsLaws.{Puts};
 use frame::Written;
 
 // Whether a line with so many lent bytes fits: three bytes for each, and the rest.
@@ -33,7 +31,7 @@ fn put_lent(buffer: &mut [u8], at: usize, lent: &[u8]) -> usize
     let mut next = at;
     let mut i = 0;
     while i < lent.len() {
-        next = parts::put_code(buffer, next, b" ", lent[i]);
+        next = fields::put_code(buffer, next, b" ", lent[i]);
         i += 1;
     }
     next
@@ -42,7 +40,7 @@ fn put_lent(buffer: &mut [u8], at: usize, lent: &[u8]) -> usize
 fn put_outcome(buffer: &mut [u8], at: usize, word: &[u8], n: usize, lent: &[u8]) -> usize
     ensures { λ r. ⌜ Puts (length (now (word .entry)) + (3 * length (now (lent .entry)) + 22)) (outcomeText (now (word .entry)) n (now (lent .entry))) at (now (buffer .entry)) r (now (buffer .exit)) ⌝ }
 {
-    let at = parts::put_count(buffer, at, word, n);
+    let at = fields::put_count(buffer, at, word, n);
     let at = text::put_byte(buffer, at, b':');
     let at = put_lent(buffer, at, lent);
     text::put_byte(buffer, at, b'\n')

@@ -13,7 +13,7 @@ use Rattle.line.specs.Values.{hexByte, allDigits, valueAfter, leadingZero, grea
 use Rattle.line.specs.Fields.{Read, nothing, got, valued, first, andThen, upTo, roomNumber, portNumber, Target, target, Lent, lent, before, bytesOf, limited}
 use Rattle.line.specs.Commands as commands
 use Rattle.line.specs.Commands.{Command, noCall}
-use Rattle.line.specs.Lines.{alone, given, withBytes, requestCall, cancelCall, switchCall, getPairedCall, ledCall, listCall, frameCall, Row, otherRows, table, called, callOf}
+use Rattle.line.specs.Lines.{alone, given, withBytes, requestCall, cancelCall, switchCall, getPairedCall, ledCall, listCall, frameCall, Row, otherRows, writerRows, table, called, callOf}
 
 -- words with one space after each
 unfoldable pub sizeOf : List (List ℕ) → ℕ
@@ -274,16 +274,20 @@ others-short =
     (a-row (lit≤ tt) (λ words. at-most most (lit≤ tt) (bytes-short commands.mouse words))
     (a-row (lit≤ tt) (λ words. at-most most (lit≤ tt) (alone-short commands.dump words)) no-row)))
 
+writers-short : AllShort writerRows
+unfolding writerRows
+writers-short =
+    a-row (lit≤ tt) switch-short
+    (a-row (lit≤ tt) get-paired-short
+    (a-row (lit≤ tt) led-short
+    (a-row (lit≤ tt) list-short others-short)))
+
 table-short : AllShort table
 table-short =
     a-row (lit≤ tt) (λ words. at-most most (lit≤ tt) (bytes-short commands.take words))
     (a-row (lit≤ tt) request-short
     (a-row (lit≤ tt) cancel-short
-    (a-row (lit≤ tt) (λ words. at-most most (lit≤ tt) (alone-short commands.tick words))
-    (a-row (lit≤ tt) switch-short
-    (a-row (lit≤ tt) get-paired-short
-    (a-row (lit≤ tt) led-short
-    (a-row (lit≤ tt) list-short others-short)))))))
+    (a-row (lit≤ tt) (λ words. at-most most (lit≤ tt) (alone-short commands.tick words)) writers-short)))
 
 call-short : (words : List (List ℕ)) → Short 809 words (callOf words)
 call-short [] = none-called refl

@@ -53,59 +53,11 @@ alone-at-requires c κs = search needs
 returns-4 : tie.Need-returns-4
 returns-4 c = retold (c .alone-at .ensures) (simp (sym (c .before .before .before .before .before .before .before .before .before .before .before .is-word .ensures) ∙ c .before .before .before .before .before .before .before .before .before .before .if1 .left, sym (c .before .before .before .before .before .before .before .before .is-word2 .ensures) ∙ c .before .before .before .before .before .before .before .if2 .left, sym (c .before .before .before .before .before .is-word3 .ensures) ∙ c .before .before .before .before .if3 .left, sym (c .before .before .is-word4 .ensures) ∙ c .before .if4 .taken))
 
-slice-aggregate-is-word-5 : tie.Need-slice-aggregate-is-word-5
-slice-aggregate-is-word-5 c = search needs
-
-is-word-requires-5 : tie.Need-is-word-requires-5
-is-word-requires-5 c κs = search needs
-
-switch-call-requires : tie.Need-switch-call-requires
-switch-call-requires c κs = search needs
+writer-call-requires : tie.Need-writer-call-requires
+writer-call-requires c κs = search needs
 
 returns-5 : tie.Need-returns-5
-returns-5 c = retold (c .switch-call .ensures) (simp (sym (c .before .before .before .before .before .before .before .before .before .before .before .before .before .before .is-word .ensures) ∙ c .before .before .before .before .before .before .before .before .before .before .before .before .before .if1 .left, sym (c .before .before .before .before .before .before .before .before .before .before .before .is-word2 .ensures) ∙ c .before .before .before .before .before .before .before .before .before .before .if2 .left, sym (c .before .before .before .before .before .before .before .before .is-word3 .ensures) ∙ c .before .before .before .before .before .before .before .if3 .left, sym (c .before .before .before .before .before .is-word4 .ensures) ∙ c .before .before .before .before .if4 .left, sym (c .before .before .is-word5 .ensures) ∙ c .before .if5 .taken))
-
-slice-aggregate-is-word-6 : tie.Need-slice-aggregate-is-word-6
-slice-aggregate-is-word-6 c = search needs
-
-is-word-requires-6 : tie.Need-is-word-requires-6
-is-word-requires-6 c κs = search needs
-
-get-paired-call-requires : tie.Need-get-paired-call-requires
-get-paired-call-requires c κs = search needs
-
-returns-6 : tie.Need-returns-6
-returns-6 c = retold (c .get-paired-call .ensures) (simp (sym (c .before .before .before .before .before .before .before .before .before .before .before .before .before .before .before .before .before .is-word .ensures) ∙ c .before .before .before .before .before .before .before .before .before .before .before .before .before .before .before .before .if1 .left, sym (c .before .before .before .before .before .before .before .before .before .before .before .before .before .before .is-word2 .ensures) ∙ c .before .before .before .before .before .before .before .before .before .before .before .before .before .if2 .left, sym (c .before .before .before .before .before .before .before .before .before .before .before .is-word3 .ensures) ∙ c .before .before .before .before .before .before .before .before .before .before .if3 .left, sym (c .before .before .before .before .before .before .before .before .is-word4 .ensures) ∙ c .before .before .before .before .before .before .before .if4 .left, sym (c .before .before .before .before .before .is-word5 .ensures) ∙ c .before .before .before .before .if5 .left, sym (c .before .before .is-word6 .ensures) ∙ c .before .if6 .taken))
-
-slice-aggregate-is-word-7 : tie.Need-slice-aggregate-is-word-7
-slice-aggregate-is-word-7 c = search needs
-
-is-word-requires-7 : tie.Need-is-word-requires-7
-is-word-requires-7 c κs = search needs
-
-led-call-requires : tie.Need-led-call-requires
-led-call-requires c κs = search needs
-
-returns-7 : tie.Need-returns-7
-returns-7 c = retold (c .led-call .ensures) (simp (sym (c .before .before .before .before .before .before .before .before .before .before .before .before .before .before .before .before .before .before .before .before .is-word .ensures) ∙ c .before .before .before .before .before .before .before .before .before .before .before .before .before .before .before .before .before .before .before .if1 .left, sym (c .before .before .before .before .before .before .before .before .before .before .before .before .before .before .before .before .before .is-word2 .ensures) ∙ c .before .before .before .before .before .before .before .before .before .before .before .before .before .before .before .before .if2 .left, sym (c .before .before .before .before .before .before .before .before .before .before .before .before .before .before .is-word3 .ensures) ∙ c .before .before .before .before .before .before .before .before .before .before .before .before .before .if3 .left, sym (c .before .before .before .before .before .before .before .before .before .before .before .is-word4 .ensures) ∙ c .before .before .before .before .before .before .before .before .before .before .if4 .left, sym (c .before .before .before .before .before .before .before .before .is-word5 .ensures) ∙ c .before .before .before .before .before .before .before .if5 .left, sym (c .before .before .before .before .before .is-word6 .ensures) ∙ c .before .before .before .before .if6 .left, sym (c .before .before .is-word7 .ensures) ∙ c .before .if7 .taken))
-
-slice-aggregate-is-word-8 : tie.Need-slice-aggregate-is-word-8
-slice-aggregate-is-word-8 c = search needs
-
-is-word-requires-8 : tie.Need-is-word-requires-8
-is-word-requires-8 c κs = search needs
-
-list-call-requires : tie.Need-list-call-requires
-list-call-requires c κs = search needs
-
-returns-8 : tie.Need-returns-8
-returns-8 c = retold (c .list-call .ensures) (simp (sym (c .before .before .before .before .before .before .before .before .before .before .before .before .before .before .before .before .before .before .before .before .before .before .before .is-word .ensures) ∙ c .before .before .before .before .before .before .before .before .before .before .before .before .before .before .before .before .before .before .before .before .before .before .if1 .left, sym (c .before .before .before .before .before .before .before .before .before .before .before .before .before .before .before .before .before .before .before .before .is-word2 .ensures) ∙ c .before .before .before .before .before .before .before .before .before .before .before .before .before .before .before .before .before .before .before .if2 .left, sym (c .before .before .before .before .before .before .before .before .before .before .before .before .before .before .before .before .before .is-word3 .ensures) ∙ c .before .before .before .before .before .before .before .before .before .before .before .before .before .before .before .before .if3 .left, sym (c .before .before .before .before .before .before .before .before .before .before .before .before .before .before .is-word4 .ensures) ∙ c .before .before .before .before .before .before .before .before .before .before .before .before .before .if4 .left, sym (c .before .before .before .before .before .before .before .before .before .before .before .is-word5 .ensures) ∙ c .before .before .before .before .before .before .before .before .before .before .if5 .left, sym (c .before .before .before .before .before .before .before .before .is-word6 .ensures) ∙ c .before .before .before .before .before .before .before .if6 .left, sym (c .before .before .before .before .before .is-word7 .ensures) ∙ c .before .before .before .before .if7 .left, sym (c .before .before .is-word8 .ensures) ∙ c .before .if8 .taken))
-
-other-call-requires : tie.Need-other-call-requires
-other-call-requires c κs = search needs
-
-returns-9 : tie.Need-returns-9
-returns-9 c = retold (c .other-call .ensures) (simp (sym (c .before .before .before .before .before .before .before .before .before .before .before .before .before .before .before .before .before .before .before .before .before .before .before .is-word .ensures) ∙ c .before .before .before .before .before .before .before .before .before .before .before .before .before .before .before .before .before .before .before .before .before .before .if1 .left, sym (c .before .before .before .before .before .before .before .before .before .before .before .before .before .before .before .before .before .before .before .before .is-word2 .ensures) ∙ c .before .before .before .before .before .before .before .before .before .before .before .before .before .before .before .before .before .before .before .if2 .left, sym (c .before .before .before .before .before .before .before .before .before .before .before .before .before .before .before .before .before .is-word3 .ensures) ∙ c .before .before .before .before .before .before .before .before .before .before .before .before .before .before .before .before .if3 .left, sym (c .before .before .before .before .before .before .before .before .before .before .before .before .before .before .is-word4 .ensures) ∙ c .before .before .before .before .before .before .before .before .before .before .before .before .before .if4 .left, sym (c .before .before .before .before .before .before .before .before .before .before .before .is-word5 .ensures) ∙ c .before .before .before .before .before .before .before .before .before .before .if5 .left, sym (c .before .before .before .before .before .before .before .before .is-word6 .ensures) ∙ c .before .before .before .before .before .before .before .if6 .left, sym (c .before .before .before .before .before .is-word7 .ensures) ∙ c .before .before .before .before .if7 .left, sym (c .before .before .is-word8 .ensures) ∙ c .before .if8 .left))
+returns-5 c = retold (c .writer-call .ensures) (simp (sym (c .before .before .before .before .before .before .before .before .before .before .before .is-word .ensures) ∙ c .before .before .before .before .before .before .before .before .before .before .if1 .left, sym (c .before .before .before .before .before .before .before .before .is-word2 .ensures) ∙ c .before .before .before .before .before .before .before .if2 .left, sym (c .before .before .before .before .before .is-word3 .ensures) ∙ c .before .before .before .before .if3 .left, sym (c .before .before .is-word4 .ensures) ∙ c .before .if4 .left))
 
 pub named-call-spec : {M : Type 1} → statement M
 named-call-spec =
@@ -127,21 +79,5 @@ named-call-spec =
     is-word-requires-4
     alone-at-requires
     returns-4
-    slice-aggregate-is-word-5
-    is-word-requires-5
-    switch-call-requires
-    returns-5
-    slice-aggregate-is-word-6
-    is-word-requires-6
-    get-paired-call-requires
-    returns-6
-    slice-aggregate-is-word-7
-    is-word-requires-7
-    led-call-requires
-    returns-7
-    slice-aggregate-is-word-8
-    is-word-requires-8
-    list-call-requires
-    returns-8
-    other-call-requires
-    returns-9)
+    writer-call-requires
+    returns-5)

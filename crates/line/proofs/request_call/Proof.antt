@@ -1,7 +1,7 @@
 -- `line::request_call` meets its contract.
 use mathlib.Core.Path.{sym, _∙_}
 use mathlib.Core.Path.{ap}
-use Rattle.line.specs.Answers.{lentRead, numberRead, targetRead}
+use Rattle.line.specs.Answers.{numberRead, targetRead}
 use Rattle.line.specs.Lines.{requestCall}
 use Rattle.line.specs.LinesLaws.{retold}
 use borrow.Author.Needs.{needs}
@@ -40,28 +40,12 @@ returns-2 : tie.Need-returns-2
 unfolding requestCall
 returns-2 c = retold (c .bare2 .ensures) (simp ((sym (c .before .before .before .before .before .before .before .next-target .ensures) ∙ ap (targetRead (c .before .before .before .before .before .before .before .before .before .args .line .now)) (c .before .before .before .before .before .port .given .1)), (sym (c .before .before .before .next-number .ensures) ∙ ap (numberRead (c .before .before .before .before .before .before .before .before .before .args .line .now)) (c .before .enum-told2 .given .1))))
 
-next-lent-requires : tie.Need-next-lent-requires
-next-lent-requires c κs = search needs
-
-enum-known-place : tie.Need-enum-known-place
-enum-known-place c = search needs
-
-enum-told-3 : tie.Need-enum-told-3
-enum-told-3 c = search needs
-
-bare-requires-3 : tie.Need-bare-requires-3
-bare-requires-3 c κs = search needs
+lent-bytes-requires : tie.Need-lent-bytes-requires
+lent-bytes-requires c κs = search needs
 
 returns-3 : tie.Need-returns-3
 unfolding requestCall
-returns-3 c = retold (c .bare3 .ensures) (simp ((sym (c .before .before .before .before .before .before .before .before .before .before .before .next-target .ensures) ∙ ap (targetRead (c .before .before .before .before .before .before .before .before .before .before .before .before .before .args .line .now)) (c .before .before .before .before .before .before .before .before .before .port .given .1)), (sym (c .before .before .before .before .before .before .before .next-number .ensures) ∙ ap (numberRead (c .before .before .before .before .before .before .before .before .before .before .before .before .before .args .line .now)) (c .before .before .before .before .before .ticks .given .1)), (sym (c .before .before .before .next-lent .ensures) ∙ ap (lentRead (c .before .before .before .before .before .before .before .before .before .before .before .before .before .args .line .now)) (c .before .enum-told3 .given .1))))
-
-with-bytes-requires : tie.Need-with-bytes-requires
-with-bytes-requires c κs = search needs
-
-returns-4 : tie.Need-returns-4
-unfolding requestCall
-returns-4 c = retold (c .with-bytes .ensures) (simp ((sym (c .before .before .before .before .before .before .before .before .before .before .before .before .next-target .ensures) ∙ ap (targetRead (c .before .before .before .before .before .before .before .before .before .before .before .before .before .before .args .line .now)) (c .before .before .before .before .before .before .before .before .before .before .port .given .1)), (sym (c .before .before .before .before .before .before .before .before .next-number .ensures) ∙ ap (numberRead (c .before .before .before .before .before .before .before .before .before .before .before .before .before .before .args .line .now)) (c .before .before .before .before .before .before .ticks .given .1)), (sym (c .before .before .before .before .next-lent .ensures) ∙ ap (lentRead (c .before .before .before .before .before .before .before .before .before .before .before .before .before .before .args .line .now)) (c .before .before .place .given .1))))
+returns-3 c = retold (c .lent-bytes .ensures) (simp ((sym (c .before .before .before .before .before .before .before .before .next-target .ensures) ∙ ap (targetRead (c .before .before .before .before .before .before .before .before .before .before .args .line .now)) (c .before .before .before .before .before .before .port .given .1)), (sym (c .before .before .before .before .next-number .ensures) ∙ ap (numberRead (c .before .before .before .before .before .before .before .before .before .before .args .line .now)) (c .before .before .ticks .given .1))))
 
 pub request-call-spec : {M : Type 1} → statement M
 request-call-spec =
@@ -77,10 +61,5 @@ request-call-spec =
     enum-told-2
     bare-requires-2
     returns-2
-    next-lent-requires
-    enum-known-place
-    enum-told-3
-    bare-requires-3
-    returns-3
-    with-bytes-requires
-    returns-4)
+    lent-bytes-requires
+    returns-3)

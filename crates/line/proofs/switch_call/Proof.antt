@@ -1,7 +1,7 @@
 -- `line::switch_call` meets its contract.
 use mathlib.Core.Path.{sym, _∙_}
 use mathlib.Core.Path.{ap}
-use Rattle.line.specs.Answers.{byteRead, lentRead}
+use Rattle.line.specs.Answers.{byteRead}
 use Rattle.line.specs.Lines.{switchCall}
 use Rattle.line.specs.LinesLaws.{retold}
 use borrow.Author.Needs.{needs}
@@ -40,28 +40,12 @@ returns-2 : tie.Need-returns-2
 unfolding switchCall
 returns-2 c = retold (c .bare2 .ensures) (simp ((sym (c .before .before .before .before .before .before .before .next-byte .ensures) ∙ ap (byteRead (c .before .before .before .before .before .before .before .before .before .args .line .now)) (c .before .before .before .before .before .bits .given .1)), (sym (c .before .before .before .next-byte2 .ensures) ∙ ap (byteRead (c .before .before .before .before .before .before .before .before .before .args .line .now)) (c .before .enum-told2 .given .1))))
 
-next-lent-requires : tie.Need-next-lent-requires
-next-lent-requires c κs = search needs
-
-enum-known-place : tie.Need-enum-known-place
-enum-known-place c = search needs
-
-enum-told-3 : tie.Need-enum-told-3
-enum-told-3 c = search needs
-
-bare-requires-3 : tie.Need-bare-requires-3
-bare-requires-3 c κs = search needs
+lent-alone-requires : tie.Need-lent-alone-requires
+lent-alone-requires c κs = search needs
 
 returns-3 : tie.Need-returns-3
 unfolding switchCall
-returns-3 c = retold (c .bare3 .ensures) (simp ((sym (c .before .before .before .before .before .before .before .before .before .before .before .next-byte .ensures) ∙ ap (byteRead (c .before .before .before .before .before .before .before .before .before .before .before .before .before .args .line .now)) (c .before .before .before .before .before .before .before .before .before .bits .given .1)), (sym (c .before .before .before .before .before .before .before .next-byte2 .ensures) ∙ ap (byteRead (c .before .before .before .before .before .before .before .before .before .before .before .before .before .args .line .now)) (c .before .before .before .before .before .timeout .given .1)), (sym (c .before .before .before .next-lent .ensures) ∙ ap (lentRead (c .before .before .before .before .before .before .before .before .before .before .before .before .before .args .line .now)) (c .before .enum-told3 .given .1))))
-
-alone-at-requires : tie.Need-alone-at-requires
-alone-at-requires c κs = search needs
-
-returns-4 : tie.Need-returns-4
-unfolding switchCall
-returns-4 c = retold (c .alone-at .ensures) (simp ((sym (c .before .before .before .before .before .before .before .before .before .before .before .before .next-byte .ensures) ∙ ap (byteRead (c .before .before .before .before .before .before .before .before .before .before .before .before .before .before .args .line .now)) (c .before .before .before .before .before .before .before .before .before .before .bits .given .1)), (sym (c .before .before .before .before .before .before .before .before .next-byte2 .ensures) ∙ ap (byteRead (c .before .before .before .before .before .before .before .before .before .before .before .before .before .before .args .line .now)) (c .before .before .before .before .before .before .timeout .given .1)), (sym (c .before .before .before .before .next-lent .ensures) ∙ ap (lentRead (c .before .before .before .before .before .before .before .before .before .before .before .before .before .before .args .line .now)) (c .before .before .place .given .1))))
+returns-3 c = retold (c .lent-alone .ensures) (simp ((sym (c .before .before .before .before .before .before .before .before .next-byte .ensures) ∙ ap (byteRead (c .before .before .before .before .before .before .before .before .before .before .args .line .now)) (c .before .before .before .before .before .before .bits .given .1)), (sym (c .before .before .before .before .next-byte2 .ensures) ∙ ap (byteRead (c .before .before .before .before .before .before .before .before .before .before .args .line .now)) (c .before .before .timeout .given .1))))
 
 pub switch-call-spec : {M : Type 1} → statement M
 switch-call-spec =
@@ -77,10 +61,5 @@ switch-call-spec =
     enum-told-2
     bare-requires-2
     returns-2
-    next-lent-requires
-    enum-known-place
-    enum-told-3
-    bare-requires-3
-    returns-3
-    alone-at-requires
-    returns-4)
+    lent-alone-requires
+    returns-3)

@@ -1,7 +1,7 @@
 -- `render::put_cancelled` meets its contract.
 use mathlib.Core.Path.{sym, _∙_}
 use borrow.Author.Needs.{needs}
-use Rattle.render.specs.PutsLaws.{placed, unplaced}
+use Rattle.fields.specs.PutsLaws.{placed, unplaced}
 use Rattle.render.proofs.put_cancelled.Statement.{statement}
 use Rattle.render.proofs.put_cancelled.Tie as tie
 

@@ -1,7 +1,7 @@
 -- `render::put_moved` meets its contract.
 use mathlib.Core.Path.{sym, _∙_}
 use borrow.Author.Needs.{needs}
-use Rattle.render.specs.PutsLaws.{placed, unplaced}
+use Rattle.fields.specs.PutsLaws.{placed, unplaced}
 use Rattle.render.proofs.put_moved.Statement.{statement}
 use Rattle.render.proofs.put_moved.Tie as tie
 

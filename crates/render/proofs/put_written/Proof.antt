@@ -1,7 +1,7 @@
 -- `render::put_written` meets its contract.
 use mathlib.Core.Path.{sym, _∙_}
 use borrow.Author.Needs.{needs}
-use Rattle.render.specs.PutsLaws.{placed, unplaced}
+use Rattle.fields.specs.PutsLaws.{placed, unplaced}
 use Rattle.render.proofs.put_written.Statement.{statement}
 use Rattle.render.proofs.put_written.Tie as tie
 

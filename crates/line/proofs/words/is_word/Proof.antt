@@ -1,6 +1,6 @@
 -- `line::words::is_word` meets its contract: the characters up to i are the same.
 use Prim.Native.Nat.{_-_}
-use mathlib.Core.Path.{sym, _∙_}
+use mathlib.Core.Path.{sym}
 use native.Mathlib.Omega.{arith}
 use lib.ListN.{length}
 use Rattle.line.specs.WordsLaws.{Comparing, unlike, compare-begun, compare-more, compare-differs, compare-done}

@@ -4,7 +4,7 @@ use lib.Dec.{lit≤}
 use borrow.Author.Needs.{needs}
 use Rattle.port.specs.Waiting.{cancelOf}
 use Rattle.port.specs.declared.waiting.Cancelled.{Cancelled}
-use Rattle.render.specs.PutsLaws.{a-word, at-most, same-text}
+use Rattle.fields.specs.PutsLaws.{a-word, at-most, same-text}
 use Rattle.render.specs.Lines.{cancelledText}
 use Rattle.render.proofs.single.cancelled.Statement.{statement}
 use Rattle.render.proofs.single.cancelled.Tie as tie

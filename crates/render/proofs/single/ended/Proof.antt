@@ -1,7 +1,7 @@
 -- `render::single::ended` meets its contract.
 use lib.Dec.{lit≤}
 use borrow.Author.Needs.{needs}
-use Rattle.render.specs.PutsLaws.{a-word, at-most, then-put}
+use Rattle.fields.specs.PutsLaws.{a-word, at-most, then-put}
 use Rattle.render.specs.Lines.{endedText}
 use Rattle.render.proofs.single.ended.Statement.{statement}
 use Rattle.render.proofs.single.ended.Tie as tie

@@ -4,7 +4,7 @@ use lib.Dec.{lit≤}
 use borrow.Author.Needs.{needs}
 use Rattle.mouse.specs.Movement.{meaning}
 use Rattle.mouse.specs.declared.Moved.{Moved}
-use Rattle.render.specs.PutsLaws.{at-most, same-text}
+use Rattle.fields.specs.PutsLaws.{at-most, same-text}
 use Rattle.render.specs.Lines.{movedText}
 use Rattle.render.proofs.single.moved.Statement.{statement}
 use Rattle.render.proofs.single.moved.Tie as tie

@@ -1,7 +1,7 @@
 -- `render::single::no_call` meets its contract.
 use lib.Dec.{lit≤}
 use borrow.Author.Needs.{needs}
-use Rattle.render.specs.PutsLaws.{a-word, at-most, then-put}
+use Rattle.fields.specs.PutsLaws.{a-word, at-most, then-put}
 use Rattle.render.specs.Lines.{noCallText}
 use Rattle.render.proofs.single.no_call.Statement.{statement}
 use Rattle.render.proofs.single.no_call.Tie as tie

@@ -4,9 +4,9 @@ use native.Mathlib.Omega.{arith}
 use borrow.Author.Needs.{needs}
 use Rattle.text.specs.Words.{decimal}
 use Rattle.station.specs.Stations.{portCount}
-use Rattle.render.specs.PutsLaws.{kept-length}
-use Rattle.render.specs.EachLaws.{Putting, each-begun, each-put, each-done}
-use Rattle.render.specs.Fields.{spaced}
+use Rattle.fields.specs.PutsLaws.{kept-length}
+use Rattle.fields.specs.EachLaws.{Putting, each-begun, each-put, each-done}
+use Rattle.fields.specs.Fields.{spaced}
 use Rattle.render.proofs.single.put_counts.Statement.{statement}
 use Rattle.render.proofs.single.put_counts.Tie as tie
 

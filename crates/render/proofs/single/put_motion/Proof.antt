@@ -2,9 +2,9 @@
 use lib.Dec.{lit≤}
 use borrow.Author.Needs.{sfits-of, needs}
 use Rattle.text.specs.Words.{ascii}
-use Rattle.render.specs.PutsLaws.{a-word, at-most, kept-length, then-put}
+use Rattle.fields.specs.PutsLaws.{a-word, at-most, kept-length, then-put}
 use Rattle.render.specs.Lines.{movedText}
-use Rattle.render.proofs.Signs.{widened, from-bits, from-few-bits}
+use Rattle.fields.proofs.Signs.{widened, from-bits, from-few-bits}
 use Rattle.render.proofs.single.put_motion.Statement.{statement}
 use Rattle.render.proofs.single.put_motion.Tie as tie
 

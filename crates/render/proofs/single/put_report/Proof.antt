@@ -1,7 +1,7 @@
 -- `render::single::put_report` meets its contract.
 use lib.Dec.{lit≤}
 use borrow.Author.Needs.{needs}
-use Rattle.render.specs.PutsLaws.{a-word, at-most, then-put}
+use Rattle.fields.specs.PutsLaws.{a-word, at-most, then-put}
 use Rattle.render.specs.Lines.{reportText}
 use Rattle.render.proofs.single.put_report.Statement.{statement}
 use Rattle.render.proofs.single.put_report.Tie as tie

@@ -4,7 +4,7 @@ use lib.Dec.{lit≤}
 use borrow.Author.Needs.{needs}
 use Rattle.report.specs.Reading.{meaning}
 use Rattle.report.specs.declared.Reading.{Reading}
-use Rattle.render.specs.PutsLaws.{at-most, same-text}
+use Rattle.fields.specs.PutsLaws.{at-most, same-text}
 use Rattle.render.specs.Lines.{readingText}
 use Rattle.render.proofs.single.read.Statement.{statement}
 use Rattle.render.proofs.single.read.Tie as tie

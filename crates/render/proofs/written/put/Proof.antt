@@ -7,7 +7,7 @@ use borrow.Author.Needs.{needs}
 use Rattle.frame.specs.Writing.{meaning}
 use Rattle.frame.specs.declared.Written.{Written}
 use Rattle.text.specs.Words.{ascii}
-use Rattle.render.specs.PutsLaws.{at-most, same-text}
+use Rattle.fields.specs.PutsLaws.{at-most, same-text}
 use Rattle.render.specs.Lines.{outcomeText, writtenText}
 use Rattle.render.proofs.written.put.Statement.{statement}
 use Rattle.render.proofs.written.put.Tie as tie

@@ -4,9 +4,9 @@ use native.Mathlib.Omega.{arith}
 use borrow.Author.Needs.{needs}
 use mathlib.Core.Path.{refl}
 use lib.ListN.{length}
-use Rattle.render.specs.PutsLaws.{kept-length}
-use Rattle.render.specs.EachLaws.{Putting, each-begun, each-put, each-done}
-use Rattle.render.specs.Fields.{byteText, spaced}
+use Rattle.fields.specs.PutsLaws.{kept-length}
+use Rattle.fields.specs.EachLaws.{Putting, each-begun, each-put, each-done}
+use Rattle.fields.specs.Fields.{byteText, spaced}
 use Rattle.render.proofs.written.put_lent.Statement.{statement}
 use Rattle.render.proofs.written.put_lent.Tie as tie
 

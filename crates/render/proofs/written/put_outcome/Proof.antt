@@ -4,7 +4,7 @@ use native.Mathlib.Omega.{arith}
 use denote.Ref.{now}
 use borrow.Author.Needs.{needs}
 use Rattle.text.specs.Words.{ascii, decimal}
-use Rattle.render.specs.PutsLaws.{a-word, at-most, same-text, then-put}
+use Rattle.fields.specs.PutsLaws.{a-word, at-most, same-text, then-put}
 use Rattle.render.specs.Lines.{lentText, outcomeText}
 use Rattle.render.proofs.written.put_outcome.Statement.{statement}
 use Rattle.render.proofs.written.put_outcome.Tie as tie

@@ -1,0 +1,41 @@
+-- `fields::put_flag` meets its contract.
+use borrow.Author.Needs.{needs}
+use Rattle.fields.specs.PutsLaws.{a-word, then-put}
+use Rattle.fields.specs.Fields.{flag}
+use Rattle.fields.proofs.put_flag.Statement.{statement}
+use Rattle.fields.proofs.put_flag.Tie as tie
+
+put-word-requires : tie.Need-put-word-requires
+put-word-requires c κs = search needs
+
+put-byte-requires : tie.Need-put-byte-requires
+put-byte-requires c κs = search needs
+
+same-length : tie.Need-same-length
+same-length c = search needs
+
+returns : tie.Need-returns
+unfolding flag
+returns c = rw (c .before .before .before .before .if1 .taken) (then-put (a-word _ (c .before .before .before .before .before .before .before .put-word .ensures)) (a-word _ (c .before .before .put-byte .ensures)))
+
+put-byte-requires-2 : tie.Need-put-byte-requires-2
+put-byte-requires-2 c κs = search needs
+
+same-length-2 : tie.Need-same-length-2
+same-length-2 c = search needs
+
+returns-2 : tie.Need-returns-2
+unfolding flag
+returns-2 c = rw (c .before .before .before .before .if1 .left) (then-put (a-word _ (c .before .before .before .before .before .before .before .put-word .ensures)) (a-word _ (c .before .before .put-byte2 .ensures)))
+
+pub put-flag-spec : {M : Type 1} → statement M
+put-flag-spec =
+    tie.close
+    (tie.spec
+    put-word-requires
+    put-byte-requires
+    same-length
+    returns
+    put-byte-requires-2
+    same-length-2
+    returns-2)
