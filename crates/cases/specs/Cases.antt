@@ -22,7 +22,8 @@ use Rattle.dj.specs.Taking.{radioRule, unpairedRule, pairedPort, pairedRule, li
 use Rattle.station.specs.declared.Station.{Station}
 use Rattle.station.specs.Stations.{placeOf, freshStation, portAt, withPort}
 use Rattle.station.specs.Taking.{messageOf, takeBy, takeRule}
-use Rattle.station.specs.Calls.{pendingOf, RequestOutcome, requestBy, requestAt, requestRule, tickedPort, tickAll}
+use Rattle.asking.specs.Asking.{pendingOf, requestBy, requestAt}
+use Rattle.station.specs.Calls.{RequestOutcome, requestRule, tickedPort, tickAll}
 
 -- nine lent bytes
 unfoldable pub lent : List ℕ

@@ -16,7 +16,8 @@ use Rattle.station.specs.declared.Station.{Station}
 use Rattle.station.specs.Stations.{portCount, receiverPlace, placeOf, portAt, withPort}
 use Rattle.station.specs.StationsLaws.{place-within, same-port}
 use Rattle.station.specs.Taking.{messageOf, takeBy, takeRule}
-use Rattle.station.specs.Calls.{RequestAt, requestAt, requestRule, cancelRule, tickAll}
+use Rattle.asking.specs.Asking.{RequestAt, requestAt}
+use Rattle.station.specs.Calls.{requestRule, cancelRule, tickAll}
 use Rattle.sequence.specs.Steps.{Call, take, request, cancel, tick, switch, getPaired, led, list, Said, taken, written, cancelled, ended, Outcome, takeStep, requestStep, cancelStep, tickStep, writeStep, step}
 use Rattle.sequence.specs.Targets.{Target, none, one, all, readTarget, target}
 
