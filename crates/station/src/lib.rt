@@ -1,8 +1,9 @@
 // The station: seven ports, and the calls on them.
 ghost use mathlib.Core.Path.{_≡_};
 ghost use Prim.Native.Nat.{_<_};
+ghost use Rattle.port.specs.Answers.{resultOf};
 ghost use Rattle.station.specs.Stations.{freshStation, placeOf, portCount};
-ghost use Rattle.station.specs.Taking.{messageOf};
+ghost use Rattle.station.specs.Taking.{messageOf, djAt};
 ghost use Rattle.station.specs.Calls.{portsTicked};
 ghost use Rattle.station.specs.Promises.{TakePromise, RequestPromise, CancelPromise, TickPromise, SwitchPromise, GetPairedPromise, LedPromise, ListPromise};
 use frame::Written;
@@ -10,6 +11,7 @@ use hidpp::Message;
 use port::Port;
 use port::Three;
 use port::answer::Notice;
+use port::answer::PortTaken;
 use port::answer::Taken;
 use port::waiting;
 use port::waiting::Cancelled;
@@ -80,6 +82,19 @@ fn message_of(h: HidppReport, bytes: &[u8]) -> Message
     }
 }
 
+// A DJ report at a port. An empty list is for none: it leaves the port as it was.
+fn take_dj(port: Port, d: DjReport, bytes: &[u8]) -> PortTaken
+    ensures { λ r. ⌜ resultOf r ≡ djAt port (d .device .0) (d .kind) (d .p0) (d .length) (now (bytes .entry)) ⌝ }
+{
+    if report::is_empty_list(d.kind, d.p0) {
+        return PortTaken {
+            answer: Taken::Noticed(Notice::EmptyList),
+            port,
+        };
+    }
+    dj::take_at(port, d, bytes)
+}
+
 struct PortsTicked {
     ports: [Port; PORTS],
     ended: [u8; PORTS],
@@ -123,10 +138,8 @@ impl Station {
                 station: self,
             },
             Reading::Hidpp(h) => {
-                let device = h.device;
-                let place = place_of(device);
-                let port = self.ports[place];
-                let taken = hidpp::take_at(port, message_of(h, bytes));
+                let place = place_of(h.device);
+                let taken = hidpp::take_at(self.ports[place], message_of(h, bytes));
                 let answer = taken.answer;
                 let next = taken.port;
                 self.ports[place] = next;
@@ -136,24 +149,16 @@ impl Station {
                 }
             }
             Reading::Dj(d) => {
-                if report::is_empty_list(d.kind, d.p0) {
-                    return TakeResult {
-                        answer: Taken::Noticed(Notice::EmptyList),
-                        station: self,
-                    };
-                }
-                let device = d.device;
-                let place = place_of(device);
-                let mut port = self.ports[place];
+                let place = place_of(d.device);
+                let port = self.ports[place];
                 if dj::is_heard(port.paired, port.reports, d.kind) {
-                    port.up = true;
-                    self.ports[place] = port;
+                    self.ports[place].up = true;
                     return TakeResult {
                         answer: dj::heard(d.kind, d.length),
                         station: self,
                     };
                 }
-                let taken = dj::take_at(port, d, bytes);
+                let taken = take_dj(port, d, bytes);
                 let answer = taken.answer;
                 let next = taken.port;
                 self.ports[place] = next;
