@@ -1,4 +1,4 @@
--- A law of taking a DJ report: a radio report that is heard sets the link, whatever else the port holds.
+-- Laws of taking a DJ report: a radio report that is heard sets the link, whatever else the port holds, and is no list.
 use Prim.Native.Nat.{ℕ, _<_}
 use mathlib.Core.Path.{_≡_, refl}
 use mathlib.Core.Bool.{Bool, true, false, _&&_, false≢true}

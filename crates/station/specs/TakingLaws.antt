@@ -17,7 +17,7 @@ use Rattle.port.specs.Records.{withLink}
 use Rattle.port.specs.Answers.{Answer, Result, notice, emptyList, meaning, resultOf}
 use Rattle.hidpp.specs.declared.Message.{Message}
 use Rattle.hidpp.specs.Taking.{takeHidpp}
-use Rattle.dj.specs.Taking.{isHeard, heardAs, takeDj}
+use Rattle.dj.specs.Taking.{isHeard, heardAs}
 use Rattle.dj.specs.TakingLaws.{take-heard, heard-no-list}
 use Rattle.station.specs.declared.Station.{Station}
 use Rattle.station.specs.Stations.{placeOf, portAt, withPort}

@@ -1,6 +1,6 @@
 -- `asking::is_refused` meets its contract.
 use mathlib.Core.Path.{sym, _∙_}
-use borrow.Author.Tests.{le-leb, lt-leb, not-true, not-false}
+use borrow.Author.Tests.{le-leb, lt-leb}
 use borrow.Author.Needs.{needs}
 use Rattle.asking.proofs.is_refused.Statement.{statement}
 use Rattle.asking.proofs.is_refused.Tie as tie
