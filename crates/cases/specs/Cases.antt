@@ -1,7 +1,7 @@
 -- Document 01, "Lettered cases": all but n and p, which are run. They speak of the definitions that the contracts cite.
 use Prim.Native.Nat.{ℕ}
 use mathlib.Core.Path.{_≡_, refl}
-use mathlib.Core.List.{List, [], _∷_, _++_}
+use mathlib.Core.List.{List, [], _∷_}
 use lib.ListN.{replicate}
 use lib.IntN.{pos, negsuc}
 use Rattle.report.specs.Sizes.{lengthOf}
@@ -22,7 +22,8 @@ use Rattle.dj.specs.Taking.{radioRule, unpairedRule, pairedPort, pairedRule, li
 use Rattle.station.specs.declared.Station.{Station}
 use Rattle.station.specs.Stations.{placeOf, freshStation, portAt, withPort}
 use Rattle.station.specs.Taking.{messageOf, takeBy, takeRule}
-use Rattle.station.specs.Calls.{pendingOf, RequestOutcome, requestBy, requestAt, requestRule, tickedPort, tickAll}
+use Rattle.asking.specs.Asking.{pendingOf, requestBy, requestAt}
+use Rattle.station.specs.Calls.{RequestOutcome, requestRule, tickedPort, tickAll}
 
 -- nine lent bytes
 unfoldable pub lent : List ℕ

@@ -1,10 +1,10 @@
 -- Laws of filling the front of a part with one frame, over any length of the rest.
 use Prim.Native.Nat.{ℕ, suc, _+_, _≤_, _<_}
-use mathlib.Core.Path.{_≡_, refl, sym, _∙_, ap, subst}
+use mathlib.Core.Path.{_≡_, refl, sym, _∙_, ap}
 use mathlib.Core.List.{List, [], _∷_, _++_}
 use native.Mathlib.Omega.{arith}
 use native.Mathlib.Numerals.{add-one}
-use lib.ListN.{length, getD, set, take, drop, length-set}
+use lib.ListN.{length, getD, set, drop, length-set}
 use Rattle.frame.specs.Writing.{pasted}
 use lib.Seq.{paste, paste-zero, paste-suc, take-length, drop-drop, length-paste}
 

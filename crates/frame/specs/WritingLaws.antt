@@ -4,7 +4,7 @@ use mathlib.Core.Path.{_≡_, sym, ap, _∙_}
 use mathlib.Core.List.{List, [], _∷_, _++_, append-nil}
 use lib.ListN.{length, take, drop, length-drop, drop-of-length-le}
 use lib.Seq.{drop-drop, take-all}
-use mathlib.Core.Bool.{Bool, true, false}
+use mathlib.Core.Bool.{true, false}
 use native.Mathlib.Omega.{arith}
 use native.Mathlib.Decide.{decLe}
 use lib.Dec.{leb}
@@ -13,7 +13,7 @@ use Rattle.report.specs.Refusals.{noRoom}
 use Rattle.report.specs.Sizes.{djShort}
 use Rattle.frame.specs.declared.Head.{Head}
 use Rattle.frame.specs.Heads.{framed, djHead}
-use Rattle.frame.specs.Writing.{Outcome, wrote, refused, fitsAt, kept, pasted, frameAt}
+use Rattle.frame.specs.Writing.{Outcome, wrote, fitsAt, kept, pasted, frameAt}
 
 -- the test without a sum
 pub fits-law : (size place room : ℕ) → place ≤ room → leb size (room - place) ≡ fitsAt size place room

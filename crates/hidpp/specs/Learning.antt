@@ -1,7 +1,6 @@
 -- Document 01, "Taking a HID++ report": how records change.
 use Prim.Native.Nat.{ℕ, _+_, _*_}
 use mathlib.Core.Bool.{Bool, true, cond, not, _&&_}
-use mathlib.Core.List.{List}
 use lib.ListN.{set}
 use lib.Dec.{leb, eqb}
 use Rattle.report.specs.Sizes.{function}

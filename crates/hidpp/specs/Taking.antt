@@ -1,9 +1,7 @@
 -- Document 01, "Taking a HID++ report", at the port that the report names.
 use Prim.Native.Nat.{ℕ}
-use mathlib.Core.Bool.{Bool, true, false, cond, not, _&&_, _||_}
-use mathlib.Core.List.{List}
-use lib.Dec.{ltb, leb, eqb}
-use Rattle.report.specs.Ports.{inRange}
+use mathlib.Core.Bool.{Bool, false, cond, _&&_, _||_}
+use lib.Dec.{leb, eqb}
 use Rattle.report.specs.Sizes.{hidppStart, softwareId, isFeature}
 use Rattle.port.specs.declared.Port.{Port}
 use Rattle.port.specs.declared.Version.{Version}
@@ -75,7 +73,7 @@ abbrev pub isMajor1 : Version → Bool
 isMajor1 Unknown = false
 isMajor1 (Known major minor) = eqb major 1
 
--- 3. 0x80 to 0x83: stray; 0x40 to 0x7F: plain notice
+-- 3. 0x80 to 0x83: stray; 0x40 to 0x7F: plain notice. Above 0x83 only errors are read, which come first
 -- 4. below 0x40: version major 1, plain notice; else software id 0, event; else stray
 unfoldable pub unaskedRule : Port → Message → Result
 unaskedRule p m =

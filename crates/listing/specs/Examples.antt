@@ -1,7 +1,6 @@
 -- Document 01, "Port listing": its example, and one with every other form of a field.
-use Prim.Native.Nat.{ℕ}
 use mathlib.Core.Path.{_≡_, refl}
-use mathlib.Core.List.{List, [], _∷_, _++_}
+use mathlib.Core.List.{[], _∷_, _++_}
 use mathlib.Core.Bool.{true, false}
 use lib.ListN.{replicate}
 use Rattle.text.specs.Words.{ascii, digit, hex, decimal, decimalIn}

@@ -1,6 +1,5 @@
 -- No line of the listing is longer than 43 bytes, and no listing longer than 305.
-use Prim.Native.Nat.{ℕ, zero, suc, _+_, _*_, _≤_, _<_}
-use mathlib.Core.Path.{_≡_, refl}
+use Prim.Native.Nat.{ℕ, suc, _+_, _≤_, _<_}
 use mathlib.Core.List.{List, [], _∷_, _++_}
 use mathlib.Core.Bool.{Bool, true, false, cond}
 use native.Mathlib.Omega.{arith}
@@ -8,7 +7,7 @@ use lib.ListN.{length, take, length-append}
 use lib.Dec.{lit≤}
 use Rattle.text.specs.Words.{hex, decimal}
 use Rattle.text.specs.WordsLaws.{length-hex, length-decimal}
-use Rattle.port.specs.Places.{sumOver, isEmpty, oneIfWaiting, countWaiting}
+use Rattle.port.specs.Places.{sumOver, isEmpty, countWaiting}
 use Rattle.port.specs.declared.Request.{Request}
 use Rattle.port.specs.declared.Port.{Port}
 use Rattle.port.specs.declared.Version.the-variants as versions

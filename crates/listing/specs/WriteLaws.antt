@@ -7,7 +7,7 @@ use native.Mathlib.Omega.{arith}
 use lib.ListN.{length, take, drop, length-take, length-drop}
 use lib.Seq.{length-take-le}
 use borrow.Author.Tests.{leb-true}
-use Rattle.frame.specs.Writing.{Outcome, wrote, fitsAt, pasted, frameAt}
+use Rattle.frame.specs.Writing.{Outcome, wrote, fitsAt, frameAt}
 use Rattle.frame.specs.WritingLaws.{placed}
 use Rattle.text.specs.Putting.{filled, putRule}
 use Rattle.text.specs.PuttingLaws.{whole-next, whole-lent, length-put, front-text}

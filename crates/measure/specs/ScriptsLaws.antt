@@ -1,5 +1,5 @@
 -- Laws of the script: what each turn of the loop gives is what the rules give.
-use Prim.Native.Nat.{ℕ, suc, _+_, _*_, _^_, _≤_, _<_}
+use Prim.Native.Nat.{ℕ, _+_, _*_, _≤_, _<_}
 use Prim.Native.Nat.{_-_, _%_, _/_}
 use mathlib.Core.Path.{_≡_, refl, sym, _∙_, ap}
 use mathlib.Core.List.{List}
@@ -12,7 +12,6 @@ use Rattle.frame.specs.declared.Written.{Written}
 use Rattle.frame.specs.Writing as writing
 use Rattle.port.specs.Answers.{meaning}
 use Rattle.port.specs.Waiting.{cancelOf}
-use Rattle.listing.specs.Listing.{listingRule}
 use Rattle.station.specs.declared.Station.{Station}
 use Rattle.station.specs.declared.TakeResult.{TakeResult}
 use Rattle.station.specs.declared.RequestResult.{RequestResult}

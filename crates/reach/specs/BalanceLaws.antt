@@ -25,8 +25,9 @@ use Rattle.station.specs.declared.Station.{Station}
 use Rattle.station.specs.Stations.{placeOf, freshStation, noPort, portAt, withPort}
 use Rattle.station.specs.StationsLaws.{place-within}
 use Rattle.station.specs.Taking.{TakeOutcome, messageOf, takeBy, takeRule}
-use Rattle.station.specs.Calls as calls
-use Rattle.station.specs.Calls.{isRefused, pendingOf, requestBy, RequestOutcome, requestRule, CancelOutcome, cancelRule, tickedPort, endedOn, tickAll}
+use Rattle.asking.specs.Asking as asking
+use Rattle.asking.specs.Asking.{isRefused, pendingOf, requestBy}
+use Rattle.station.specs.Calls.{RequestOutcome, requestRule, CancelOutcome, cancelRule, tickedPort, endedOn, tickAll}
 use Rattle.sequence.specs.Steps.{Call, take, request, cancel, tick, switch, getPaired, led, list, step, run}
 use Rattle.reach.specs.Choices.{by-case, both, neither}
 use Rattle.reach.specs.Searches.{found-passes, sum-set}
@@ -85,8 +86,8 @@ one-more places free r h e q =
     let after : oneIfWaiting r ≡ 1 = ap (λ (b : Bool). cond b 0 1) q in
     omega (arith, sum-set oneIfWaiting places free r emptyPlace h, before, after)
 
-request-count : (p : Port) (device byte2 byte3 ticks : ℕ) (params : List ℕ) (place : ℕ) (lent : List ℕ) → Placed p → let r = calls.requestAt p device byte2 byte3 ticks params place lent in waitingOn (r .port) + 0 ≡ waitingOn p + writeBegins (r .answer)
-unfolding calls.requestAt requestBy roomFor withPlaces pendingOf
+request-count : (p : Port) (device byte2 byte3 ticks : ℕ) (params : List ℕ) (place : ℕ) (lent : List ℕ) → Placed p → let r = asking.requestAt p device byte2 byte3 ticks params place lent in waitingOn (r .port) + 0 ≡ waitingOn p + writeBegins (r .answer)
+unfolding asking.requestAt requestBy roomFor withPlaces pendingOf
 request-count p device byte2 byte3 ticks params place lent placed =
     by-case By (isRefused byte2 byte3 ticks params) (λ e. refl)
     (λ e. by-case By (not (writing.fitsAt (length frame) place (length lent))) (λ q. refl)
@@ -96,7 +97,7 @@ request-count p device byte2 byte3 ticks params place lent placed =
     frame : List ℕ
     frame = writing.requestFrame device byte2 byte3 params
 
-    By : calls.RequestAt → Type 0
+    By : asking.RequestAt → Type 0
     By r = waitingOn (r .port) + 0 ≡ waitingOn p + writeBegins (r .answer)
 
     In : waiting.Room → Type 0

@@ -21,7 +21,8 @@ use Rattle.station.specs.declared.Station.{Station}
 use Rattle.station.specs.Stations.{portCount, receiverPlace, placeOf, freshStation, noPort, portAt, withPort}
 use Rattle.station.specs.StationsLaws.{place-within}
 use Rattle.station.specs.Taking.{TakeOutcome, messageOf, takeBy, takeRule}
-use Rattle.station.specs.Calls.{requestAt, RequestOutcome, requestRule, CancelOutcome, cancelRule, tickedPort, tickAll}
+use Rattle.asking.specs.Asking.{requestAt}
+use Rattle.station.specs.Calls.{RequestOutcome, requestRule, CancelOutcome, cancelRule, tickedPort, tickAll}
 use Rattle.sequence.specs.Steps.{Call, take, request, cancel, tick, switch, getPaired, led, list, step, run}
 use Rattle.reach.specs.Choices.{by-case}
 use Rattle.reach.specs.Readings.{ReadFits, read-fits, receiver-kind}

@@ -26,8 +26,9 @@ use Rattle.hidpp.specs.Learning.{maxLevel, batteryPlace, wirelessPlace, feature
 use Rattle.hidpp.specs.Taking.{isError, errorFits, named2, named3, code, isMajor1, errorRule, replyRule, unaskedRule, takeHidpp}
 use Rattle.dj.specs.Taking.{isDeclared, wpidOf, isSamePad, radioRule, unpairedRule, pairedPort, pairedRule, linkRule, otherRule, takeDj}
 use Rattle.station.specs.Stations.{receiverPlace}
-use Rattle.station.specs.Calls as calls
-use Rattle.station.specs.Calls.{isRefused, pendingOf, requestBy, tickedPort}
+use Rattle.asking.specs.Asking as asking
+use Rattle.asking.specs.Asking.{isRefused, pendingOf, requestBy}
+use Rattle.station.specs.Calls.{tickedPort}
 use Rattle.reach.specs.Choices.{by-case, both, neither}
 use Rattle.reach.specs.Searches.{passes-found}
 use Rattle.reach.specs.Sound.{maxTicks, SoundPlace, Sound}
@@ -139,8 +140,8 @@ module _ (at : ℕ) where
       (λ y. by-case HeldBy (p .paired) (λ x. h) (λ x. h))
       (λ y. h))))
 
-  pub held-request : (p : Port) (device byte2 byte3 ticks : ℕ) (params : List ℕ) (place : ℕ) (lent : List ℕ) → HeldPort at p → HeldPort at (calls.requestAt p device byte2 byte3 ticks params place lent .port)
-  unfolding calls.requestAt requestBy roomFor withPlaces pendingOf
+  pub held-request : (p : Port) (device byte2 byte3 ticks : ℕ) (params : List ℕ) (place : ℕ) (lent : List ℕ) → HeldPort at p → HeldPort at (asking.requestAt p device byte2 byte3 ticks params place lent .port)
+  unfolding asking.requestAt requestBy roomFor withPlaces pendingOf
   held-request p device byte2 byte3 ticks params place lent h =
       by-case By (isRefused byte2 byte3 ticks params) (λ e. h)
       (λ e. by-case By (not (writing.fitsAt (length frame) place (length lent))) (λ q. h)
@@ -155,7 +156,7 @@ module _ (at : ℕ) where
       frame : List ℕ
       frame = writing.requestFrame device byte2 byte3 params
 
-      By : calls.RequestAt → Type 0
+      By : asking.RequestAt → Type 0
       By r = HeldPort at (r .port)
 
       In : waiting.Room → Type 0

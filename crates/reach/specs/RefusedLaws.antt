@@ -22,8 +22,9 @@ use Rattle.station.specs.declared.Station.{Station}
 use Rattle.station.specs.Stations.{placeOf, portAt, withPort}
 use Rattle.station.specs.StationsLaws.{same-port}
 use Rattle.station.specs.Taking.{TakeOutcome, messageOf, takeBy, takeRule}
-use Rattle.station.specs.Calls as calls
-use Rattle.station.specs.Calls.{isRefused, pendingOf, requestBy, RequestOutcome, requestRule, CancelOutcome, cancelRule}
+use Rattle.asking.specs.Asking as asking
+use Rattle.asking.specs.Asking.{isRefused, pendingOf, requestBy}
+use Rattle.station.specs.Calls.{RequestOutcome, requestRule, CancelOutcome, cancelRule}
 use Rattle.listing.specs.Listing.{listingRule}
 use Rattle.sequence.specs.Steps.{Call, take, request, cancel, tick, switch, getPaired, led, list, step}
 use Rattle.reach.specs.Choices.{by-case}
@@ -58,8 +59,8 @@ module _ (p : Port) where
       (λ y. by-case Kept (p .paired) (λ x r. absurd (false≢true r)) (λ x r. refl))
       (λ y r. refl))))
 
-  request-kept : (device byte2 byte3 ticks : ℕ) (params : List ℕ) (place : ℕ) (lent : List ℕ) → let r = calls.requestAt p device byte2 byte3 ticks params place lent in writeRefused (r .answer) ≡ true → (r .port ≡ p) × (r .lent ≡ lent)
-  unfolding calls.requestAt requestBy roomFor
+  request-kept : (device byte2 byte3 ticks : ℕ) (params : List ℕ) (place : ℕ) (lent : List ℕ) → let r = asking.requestAt p device byte2 byte3 ticks params place lent in writeRefused (r .answer) ≡ true → (r .port ≡ p) × (r .lent ≡ lent)
+  unfolding asking.requestAt requestBy roomFor
   request-kept device byte2 byte3 ticks params place lent =
       by-case By (isRefused byte2 byte3 ticks params) (λ e r. (refl, refl))
       (λ e. by-case By (not (writing.fitsAt (length frame) place (length lent))) (λ q r. (refl, refl))
@@ -69,7 +70,7 @@ module _ (p : Port) where
       frame : List ℕ
       frame = writing.requestFrame device byte2 byte3 params
 
-      By : calls.RequestAt → Type 0
+      By : asking.RequestAt → Type 0
       By r = writeRefused (r .answer) ≡ true → (r .port ≡ p) × (r .lent ≡ lent)
 
       In : waiting.Room → Type 0

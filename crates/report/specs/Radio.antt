@@ -1,6 +1,6 @@
 -- Document 01, "Taking a DJ report": the lengths of radio payloads by type.
 use Prim.Native.Nat.{ℕ}
-use mathlib.Core.Bool.{Bool, cond, _||_}
+use mathlib.Core.Bool.{cond, _||_}
 use lib.Dec.{eqb}
 
 -- the number of types that the table has

@@ -3,7 +3,7 @@ use Prim.Native.Nat.{ℕ, _-_}
 use mathlib.Core.List.{List}
 use mathlib.Core.Bool.{Bool, cond, not, _&&_, _||_}
 use lib.ListN.{length}
-use lib.Dec.{ltb, leb, eqb}
+use lib.Dec.{leb, eqb}
 use Rattle.report.specs.Refusals.{numberOf, emptyReport, unknownId, wrongLength, downOnly, noSuchPort, reservedSubId}
 use Rattle.report.specs.Ports.{inRange, isDevice, isPort}
 use Rattle.report.specs.Sizes.{lengthOf, isHidpp, hidppStart, djStart, byte, bit}

@@ -1,7 +1,7 @@
 -- A law of reading: a report of its id's length is read by the rule of its family.
 use Prim.Native.Nat.{ℕ}
 use mathlib.Core.List.{List}
-use mathlib.Core.Path.{_≡_, sym, _∙_, subst}
+use mathlib.Core.Path.{_≡_, _∙_}
 use mathlib.Core.Bool.{Bool, cond}
 use lib.ListN.{length}
 use borrow.Author.Tests.{eq-eqb, ne-eqb}

@@ -1,5 +1,4 @@
 // The call of one block, made on the station.
-ghost use mathlib.Core.Path.{_≡_};
 ghost use mathlib.Core.List.{[]};
 ghost use Rattle.sequence.specs.Steps as steps;
 ghost use Rattle.script.specs.Promises.{MadePromise};

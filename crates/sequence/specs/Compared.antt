@@ -1,15 +1,12 @@
 -- What is compared is everything that a call says: its answer and every lent byte; of a tick, the port's count.
 use Prim.Native.Nat.{ℕ}
-use mathlib.Core.Path.{_≡_, refl, ap}
+use mathlib.Core.Path.{_≡_, ap}
 use mathlib.Core.Bool.{Bool, true, false, true≢false}
 use mathlib.Core.List.{List}
 use native.Mathlib.Omega.{arith}
 use lib.ListN.{getD}
-use Rattle.port.specs.Answers as answers
-use Rattle.frame.specs.Writing as writing
-use Rattle.port.specs.Waiting as waiting
 use Rattle.sequence.specs.Steps.{Said, taken, written, cancelled, ended, Outcome, Told, told}
-use Rattle.sequence.specs.Remaining.{Seen, whole, count, seenOf, seen}
+use Rattle.sequence.specs.Remaining.{whole, count, seenOf, seen}
 
 abbrev pub isTick : Said → Bool
 isTick (taken a) = false

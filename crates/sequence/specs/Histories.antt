@@ -1,18 +1,15 @@
 -- Demand 3, the program: histories of calls with the outcomes that the program gave, each call made on the station that the call before it handed back.
 use Prim.Native.Nat.{ℕ}
-use mathlib.Core.Path.{_≡_, refl, sym, _∙_, ap}
+use mathlib.Core.Path.{_≡_, refl, _∙_, ap}
 use mathlib.Core.List.{List, [], _∷_, map}
 use Rattle.frame.specs.declared.Written.{Written}
 use Rattle.frame.specs.Writing as writing
-use Rattle.port.specs.Answers as answers
-use Rattle.port.specs.Waiting as waiting
 use Rattle.station.specs.declared.Station.{Station}
 use Rattle.station.specs.declared.TakeResult.{TakeResult}
 use Rattle.station.specs.declared.RequestResult.{RequestResult}
 use Rattle.station.specs.declared.CancelResult.{CancelResult}
 use Rattle.station.specs.declared.TickResult.{TickResult}
-use Rattle.station.specs.Taking.{TakeOutcome, takeOutcome}
-use Rattle.station.specs.Calls.{RequestOutcome, CancelOutcome, TickOutcome}
+use Rattle.station.specs.Taking.{takeOutcome}
 use Rattle.station.specs.Promises.{TakePromise, requestOutcome, RequestPromise, cancelOutcome, CancelPromise, tickOutcome, TickPromise, SwitchPromise, GetPairedPromise, LedPromise, ListPromise}
 use Rattle.sequence.specs.Steps.{Call, take, request, cancel, tick, switch, getPaired, led, list, Outcome, takeStep, requestStep, cancelStep, tickStep, writeStep, step, run, Told, told, tells}
 

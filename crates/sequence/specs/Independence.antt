@@ -2,9 +2,9 @@
 use Prim.Native.Nat.{ℕ, _<_}
 use mathlib.Core.Path.{_≡_, refl, sym, _∙_, ap, subst}
 use mathlib.Core.Bool.{Bool, true, false, cond, true≢false, false≢true}
-use mathlib.Core.List.{List, [], _∷_, map}
+use mathlib.Core.List.{List, [], _∷_}
 use native.Mathlib.Omega.{arith}
-use lib.ListN.{length, getD, set, length-set, length-map, List·getD-map}
+use lib.ListN.{length, getD, length-set, length-map, List·getD-map}
 use lib.Seq.{getD-set-same, getD-set-other, ext-getD}
 use borrow.Author.Tests.{eqb-true, eqb-false}
 use Rattle.port.specs.declared.Port.{Port}
@@ -14,7 +14,7 @@ use Rattle.port.specs.Ticks.{tickRule}
 use Rattle.station.specs.declared.Station.{Station}
 use Rattle.station.specs.Stations.{portCount, freshStation, noPort, portAt, withPort}
 use Rattle.station.specs.Calls.{tickedPort, endedOn, tickAll}
-use Rattle.sequence.specs.Steps.{Call, Outcome, ended, tickStep, step, run}
+use Rattle.sequence.specs.Steps.{Call, Outcome, ended, step, run}
 use Rattle.sequence.specs.Targets.{Target, none, one, all, isFor, target}
 use Rattle.sequence.specs.Remaining.{remains, Seen, seen, shown, shows}
 use Rattle.sequence.specs.Local.{Done, at, done, Shape, shape}

@@ -1,8 +1,8 @@
 -- A call acts at its port alone: laws of one step, by the call's target.
-use Prim.Native.Nat.{ℕ, _-_, _<_}
+use Prim.Native.Nat.{ℕ, _<_}
 use mathlib.Core.Path.{_≡_, refl, sym, _∙_, ap}
 use mathlib.Core.Bool.{Bool, true, false, cond}
-use mathlib.Core.List.{List, [], _∷_}
+use mathlib.Core.List.{List, []}
 use lib.Dec.{lit<}
 use Rattle.report.specs.Ports.{isDevice, isPort}
 use Rattle.report.specs.Reading as reading
@@ -16,8 +16,9 @@ use Rattle.station.specs.declared.Station.{Station}
 use Rattle.station.specs.Stations.{portCount, receiverPlace, placeOf, portAt, withPort}
 use Rattle.station.specs.StationsLaws.{place-within, same-port}
 use Rattle.station.specs.Taking.{messageOf, takeBy, takeRule}
-use Rattle.station.specs.Calls.{RequestAt, requestAt, requestRule, cancelRule, tickAll}
-use Rattle.sequence.specs.Steps.{Call, take, request, cancel, tick, switch, getPaired, led, list, Said, taken, written, cancelled, ended, Outcome, takeStep, requestStep, cancelStep, tickStep, writeStep, step}
+use Rattle.asking.specs.Asking.{RequestAt, requestAt}
+use Rattle.station.specs.Calls.{requestRule, cancelRule, tickAll}
+use Rattle.sequence.specs.Steps.{Call, take, request, cancel, tick, switch, getPaired, led, list, Said, taken, written, cancelled, ended, Outcome, takeStep, tickStep, writeStep, step}
 use Rattle.sequence.specs.Targets.{Target, none, one, all, readTarget, target}
 
 -- what a call does at its port

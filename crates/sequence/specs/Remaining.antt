@@ -1,6 +1,6 @@
 -- Document 01, "Sequences of calls": striking out, and what is compared.
 use Prim.Native.Nat.{ℕ}
-use mathlib.Core.Bool.{Bool, cond}
+use mathlib.Core.Bool.{cond}
 use mathlib.Core.List.{List, [], _∷_}
 use lib.ListN.{getD}
 use Rattle.station.specs.declared.Station.{Station}

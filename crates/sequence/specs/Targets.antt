@@ -1,14 +1,11 @@
 -- Document 01, "What the console part does" and "Sequences of calls": which port a call is for, and what remains for a port.
 use Prim.Native.Nat.{ℕ}
 use mathlib.Core.Bool.{Bool, true, false, cond}
-use mathlib.Core.List.{List, [], _∷_}
-use lib.ListN.{getD}
 use lib.Dec.{eqb}
 use Rattle.report.specs.Ports.{isDevice, isPort}
 use Rattle.report.specs.Reading as reading
-use Rattle.station.specs.declared.Station.{Station}
 use Rattle.station.specs.Stations.{placeOf, receiverPlace}
-use Rattle.sequence.specs.Steps.{Call, take, request, cancel, tick, switch, getPaired, led, list, Said, taken, written, cancelled, ended, Outcome, step}
+use Rattle.sequence.specs.Steps.{Call, take, request, cancel, tick, switch, getPaired, led, list}
 
 -- a call is for no port, for the one at this place, or for all
 pub data Target : Type 0 where

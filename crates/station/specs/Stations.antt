@@ -1,7 +1,7 @@
 -- Document 01, "Ports and their records": seven ports.
 use Prim.Native.Nat.{ℕ, _-_}
 use mathlib.Core.Bool.{cond, false}
-use mathlib.Core.List.{List, []}
+use mathlib.Core.List.{[]}
 use lib.ListN.{getD, set, replicate}
 use Rattle.report.specs.Ports.{isDevice}
 use Rattle.port.specs.declared.Port.{Port}

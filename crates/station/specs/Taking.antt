@@ -33,6 +33,12 @@ messageOf device byte2 byte3 size bytes =
       first = record { 0 = byte bytes 4; 1 = byte bytes 5; 2 = byte bytes 6 };
     }
 
+-- a DJ report at a port: an empty list leaves the port as it stood
+unfoldable pub djAt : Port → ℕ → ℕ → ℕ → ℕ → List ℕ → Result
+djAt p device kind p0 size bytes =
+    cond (reading.isEmptyList kind p0) (record { answer = notice emptyList; port = p })
+    (takeDj p device kind p0 size bytes)
+
 -- refused with 1 to 6, or for the port that the report names, or an empty list, which is for none
 unfoldable pub takeBy : reading.Read → List ℕ → Station → TakeOutcome
 takeBy (reading.refused number) bytes st = record { answer = refused number; station = st }

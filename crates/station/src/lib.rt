@@ -1,19 +1,19 @@
 // The station: seven ports, and the calls on them.
 ghost use mathlib.Core.Path.{_≡_};
-ghost use Prim.Native.Nat.{_<_, _%_};
+ghost use Prim.Native.Nat.{_<_};
+ghost use Rattle.port.specs.Answers.{resultOf};
 ghost use Rattle.station.specs.Stations.{freshStation, placeOf, portCount};
-ghost use Rattle.station.specs.Taking.{messageOf};
-ghost use Rattle.station.specs.Calls.{isRefused, pendingOf, portsTicked};
+ghost use Rattle.station.specs.Taking.{messageOf, djAt};
+ghost use Rattle.station.specs.Calls.{portsTicked};
 ghost use Rattle.station.specs.Promises.{TakePromise, RequestPromise, CancelPromise, TickPromise, SwitchPromise, GetPairedPromise, LedPromise, ListPromise};
 use frame::Written;
 use hidpp::Message;
 use port::Port;
-use port::Request;
 use port::Three;
 use port::answer::Notice;
+use port::answer::PortTaken;
 use port::answer::Taken;
 use port::waiting;
-use port::waiting::Admission;
 use port::waiting::Cancelled;
 use report::Device;
 use report::DjReport;
@@ -23,8 +23,6 @@ use report::Reading;
 use report::Refusal;
 
 pub const PORTS: usize = port::PORTS;
-
-pub const MAX_TICKS: u16 = 255;
 
 // Devices 1 to 6 at places 0 to 5, and the receiver at the last.
 pub struct Station {
@@ -84,35 +82,17 @@ fn message_of(h: HidppReport, bytes: &[u8]) -> Message
     }
 }
 
-// 01, Number 9.
-fn is_refused(byte2: FeatureIndex, byte3: u8, ticks: u16, params: &[u8]) -> bool
-    ensures { λ r. ⌜ r ≡ isRefused (byte2 .0) byte3 ticks (now (params .entry)) ⌝ }
+// A DJ report at a port. An empty list is for none: it leaves the port as it was.
+fn take_dj(port: Port, d: DjReport, bytes: &[u8]) -> PortTaken
+    ensures { λ r. ⌜ resultOf r ≡ djAt port (d .device .0) (d .kind) (d .p0) (d .length) (now (bytes .entry)) ⌝ }
 {
-    if frame::is_forbidden(byte2, byte3, params) {
-        return true;
+    if report::is_empty_list(d.kind, d.p0) {
+        return PortTaken {
+            answer: Taken::Noticed(Notice::EmptyList),
+            port,
+        };
     }
-    if 1 <= ticks {
-        if ticks <= MAX_TICKS {
-            return false;
-        }
-    }
-    true
-}
-
-// The request as it waits.
-fn pending(byte2: FeatureIndex, byte3: u8, ticks: u16, params: &[u8]) -> Request
-    ensures { λ r. ⌜ r ≡ pendingOf (byte2 .0) byte3 (ticks % 256) (now (params .entry)) ⌝ }
-{
-    Request {
-        byte2,
-        byte3,
-        first: Three(
-            report::byte_at(params, 0),
-            report::byte_at(params, 1),
-            report::byte_at(params, 2),
-        ),
-        ticks: (ticks % 256) as u8,
-    }
+    dj::take_at(port, d, bytes)
 }
 
 struct PortsTicked {
@@ -158,10 +138,8 @@ impl Station {
                 station: self,
             },
             Reading::Hidpp(h) => {
-                let device = h.device;
-                let place = place_of(device);
-                let port = self.ports[place];
-                let taken = hidpp::take_at(port, message_of(h, bytes));
+                let place = place_of(h.device);
+                let taken = hidpp::take_at(self.ports[place], message_of(h, bytes));
                 let answer = taken.answer;
                 let next = taken.port;
                 self.ports[place] = next;
@@ -171,24 +149,16 @@ impl Station {
                 }
             }
             Reading::Dj(d) => {
-                if report::is_empty_list(d.kind, d.p0) {
-                    return TakeResult {
-                        answer: Taken::Noticed(Notice::EmptyList),
-                        station: self,
-                    };
-                }
-                let device = d.device;
-                let place = place_of(device);
-                let mut port = self.ports[place];
+                let place = place_of(d.device);
+                let port = self.ports[place];
                 if dj::is_heard(port.paired, port.reports, d.kind) {
-                    port.up = true;
-                    self.ports[place] = port;
+                    self.ports[place].up = true;
                     return TakeResult {
                         answer: dj::heard(d.kind, d.length),
                         station: self,
                     };
                 }
-                let taken = dj::take_at(port, d, bytes);
+                let taken = take_dj(port, d, bytes);
                 let answer = taken.answer;
                 let next = taken.port;
                 self.ports[place] = next;
@@ -213,42 +183,15 @@ impl Station {
     ) -> RequestResult
         ensures { λ r. ⌜ RequestPromise self (device .0) (byte2 .0) byte3 ticks (now (params .entry)) place (now (buffer .entry)) r (now (buffer .exit)) ⌝ }
     {
-        if !report::is_port(device) {
-            return RequestResult {
-                answer: Written::Refused(Refusal::NoSuchPort),
-                station: self,
-            };
-        }
-        if is_refused(byte2, byte3, ticks, params) {
-            return RequestResult {
-                answer: Written::Refused(Refusal::Forbidden),
-                station: self,
-            };
-        }
-        if !frame::fits(frame::HEAD + params.len(), place, buffer.len()) {
-            return RequestResult {
-                answer: Written::Refused(Refusal::NoRoom),
-                station: self,
-            };
-        }
         let at = place_of(device);
         let port = self.ports[at];
-        let places = port.places;
-        match waiting::room_for(places, byte2, byte3) {
-            Admission::Refused(refusal) => RequestResult {
-                answer: Written::Refused(refusal),
-                station: self,
-            },
-            Admission::At(free) => {
-                let request = pending(byte2, byte3, ticks, params);
-                let next = port::with_places(port, port::with_request(places, free, request));
-                self.ports[at] = next;
-                let answer = frame::request_frame(device, byte2, byte3, params, buffer, place);
-                RequestResult {
-                    answer,
-                    station: self,
-                }
-            }
+        let asked = asking::request_at(port, device, byte2, byte3, ticks, params, buffer, place);
+        let answer = asked.answer;
+        let next = asked.port;
+        self.ports[at] = next;
+        RequestResult {
+            answer,
+            station: self,
         }
     }
 

@@ -1,7 +1,7 @@
 -- Laws of putting a number digit by digit, over any width and any number of digits.
 use Prim.Native.Nat.{ℕ, _-_, _/_, _%_, _≤_, _<_}
-use mathlib.Core.Path.{_≡_, refl, sym, _∙_, ap}
-use mathlib.Core.List.{List, [], _∷_, _++_}
+use mathlib.Core.Path.{_≡_, sym, _∙_, ap}
+use mathlib.Core.List.{List, [], _∷_}
 use Rattle.text.specs.Words.{digit, hex, decimal}
 use Rattle.text.specs.WordsLaws.{hex-more, decimal-last, decimal-more}
 use Rattle.text.specs.Putting.{filled, putRule}

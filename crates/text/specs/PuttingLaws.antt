@@ -1,13 +1,13 @@
 -- Laws of putting text: nothing, one byte, one text after another, and a whole text where there is room.
 use Prim.Native.Nat.{ℕ, zero, suc, _+_, _-_, _≤_, _<_}
-use mathlib.Core.Path.{_≡_, refl, sym, _∙_, ap}
-use mathlib.Core.List.{List, [], _∷_, _++_, append-assoc, append-nil}
+use mathlib.Core.Path.{_≡_, sym, _∙_, ap}
+use mathlib.Core.List.{List, [], _∷_, _++_, append-assoc}
 use native.Mathlib.Nat.{add-zero, add-assoc}
 use native.Mathlib.Numerals.{add-one}
 use native.Mathlib.Omega.{arith}
 use native.Mathlib.Decide.{decLe}
-use lib.ListN.{length, take, drop, getD, set, length-append, length-take, length-drop, take-append-drop}
-use lib.Seq.{take-nil, take-all, take-at, take-suc, drop-append-add, drop-drop, set-split, length-take-le}
+use lib.ListN.{length, take, drop, set, length-append, length-take, length-drop, take-append-drop}
+use lib.Seq.{take-nil, take-all, take-at, drop-append-add, drop-drop, set-split, length-take-le}
 use Rattle.frame.specs.Writing.{pasted}
 use Rattle.text.specs.Putting.{Filled, filled, fitting, putRule}
 

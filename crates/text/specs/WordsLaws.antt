@@ -1,14 +1,14 @@
 -- Laws of numbers as text, over any width and any number of digits.
-use Prim.Native.Nat.{ℕ, zero, suc, _+_, _-_, _*_, _^_, _/_, _%_, _≤_, _<_}
-use mathlib.Core.Path.{_≡_, refl, sym, _∙_, ap}
+use Prim.Native.Nat.{ℕ, zero, suc, _-_, _^_, _/_, _%_, _≤_, _<_}
+use mathlib.Core.Path.{_≡_, refl, sym, ap}
 use mathlib.Core.List.{List, [], _∷_, _++_}
 use mathlib.Core.Bool.{Bool, true, false, cond}
-use native.Mathlib.Nat.{le-of-suc-le-suc, not-suc-le-zero, div-lt-self, div-lt-iff-lt-mul}
+use native.Mathlib.Nat.{not-suc-le-zero}
 use native.Mathlib.Omega.{arith}
 use lib.Dec.{ltb}
 use lib.ListN.{length, length-append}
 use borrow.Author.Tests.{lt-ltb, le-ltb, ltb-true, ltb-false}
-use Rattle.text.specs.Words.{ascii, digit, hex, decimal, decimalIn}
+use Rattle.text.specs.Words.{digit, hex, decimal, decimalIn}
 
 pub length-hex : (width n : ℕ) → length (hex width n) ≡ width
 unfolding hex

@@ -1,6 +1,5 @@
 -- `dj::is_declared` meets its contract.
-use mathlib.Core.Path.{sym, _∙_}
-use borrow.Author.Tests.{eq-eqb, ne-eqb, le-leb, lt-leb, lt-ltb, le-ltb, not-true, not-false}
+use borrow.Author.Tests.{lt-ltb, le-ltb}
 use borrow.Author.Needs.{needs}
 use Rattle.dj.proofs.is_declared.Statement.{statement}
 use Rattle.dj.proofs.is_declared.Tie as tie

@@ -1,6 +1,4 @@
 -- `dj::is_odd` meets its contract.
-use mathlib.Core.Path.{sym, _∙_}
-use borrow.Author.Tests.{eq-eqb, ne-eqb, le-leb, lt-leb, lt-ltb, le-ltb, not-true, not-false}
 use native.Mathlib.Nat.{div-one}
 use Rattle.dj.proofs.is_odd.Statement.{statement}
 use Rattle.dj.proofs.is_odd.Tie as tie

@@ -1,6 +1,4 @@
 -- `dj::is_same_pad` meets its contract.
-use mathlib.Core.Path.{sym, _∙_}
-use borrow.Author.Tests.{eq-eqb, ne-eqb, le-leb, lt-leb, lt-ltb, le-ltb, not-true, not-false}
 use borrow.Author.Needs.{needs}
 use Rattle.dj.proofs.is_same_pad.Statement.{statement}
 use Rattle.dj.proofs.is_same_pad.Tie as tie

@@ -1,6 +1,4 @@
 -- `dj::paired_port` meets its contract.
-use mathlib.Core.Path.{sym, _∙_}
-use borrow.Author.Tests.{eq-eqb, ne-eqb, le-leb, lt-leb, lt-ltb, le-ltb, not-true, not-false}
 use Rattle.dj.specs.Taking.{pairedPort}
 use Rattle.port.specs.Records.{freshPort}
 use borrow.Author.Needs.{needs}

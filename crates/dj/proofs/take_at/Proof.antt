@@ -1,6 +1,5 @@
 -- `dj::take_at` meets its contract.
-use mathlib.Core.Path.{sym, _∙_}
-use borrow.Author.Tests.{eq-eqb, ne-eqb, le-leb, lt-leb, lt-ltb, le-ltb, not-true, not-false}
+use borrow.Author.Tests.{ne-eqb, lt-ltb, le-ltb}
 use Rattle.dj.specs.Taking.{takeDj}
 use borrow.Author.Needs.{needs}
 use Rattle.dj.proofs.take_at.Statement.{statement}

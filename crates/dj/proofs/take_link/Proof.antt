@@ -1,6 +1,4 @@
 -- `dj::take_link` meets its contract.
-use mathlib.Core.Path.{sym, _∙_}
-use borrow.Author.Tests.{eq-eqb, ne-eqb, le-leb, lt-leb, lt-ltb, le-ltb, not-true, not-false}
 use Rattle.dj.specs.Taking.{linkRule}
 use borrow.Author.Needs.{needs}
 use Rattle.dj.proofs.take_link.Statement.{statement}

@@ -1,6 +1,4 @@
 -- `dj::take_other` meets its contract.
-use mathlib.Core.Path.{sym, _∙_}
-use borrow.Author.Tests.{eq-eqb, ne-eqb, le-leb, lt-leb, lt-ltb, le-ltb, not-true, not-false}
 use mathlib.Core.Path.{refl}
 use Rattle.dj.specs.Taking.{otherRule}
 use Rattle.dj.proofs.take_other.Statement.{statement}

@@ -1,6 +1,5 @@
 -- `dj::take_paired` meets its contract.
 use mathlib.Core.Path.{sym, _∙_}
-use borrow.Author.Tests.{eq-eqb, ne-eqb, le-leb, lt-leb, lt-ltb, le-ltb, not-true, not-false}
 use Rattle.dj.specs.Taking.{pairedRule}
 use Rattle.port.specs.Records.{withReports}
 use borrow.Author.Needs.{needs}

@@ -1,6 +1,6 @@
 -- `dj::take_radio` meets its contract.
 use mathlib.Core.Path.{sym, _∙_}
-use borrow.Author.Tests.{eq-eqb, ne-eqb, le-leb, lt-leb, lt-ltb, le-ltb, not-true, not-false}
+use borrow.Author.Tests.{not-true, not-false}
 use Rattle.dj.specs.Taking.{radioRule}
 use borrow.Author.Needs.{needs}
 use Rattle.dj.proofs.take_radio.Statement.{statement}

@@ -1,6 +1,4 @@
 -- `dj::take_unpaired` meets its contract.
-use mathlib.Core.Path.{sym, _∙_}
-use borrow.Author.Tests.{eq-eqb, ne-eqb, le-leb, lt-leb, lt-ltb, le-ltb, not-true, not-false}
 use Rattle.dj.specs.Taking.{unpairedRule}
 use borrow.Author.Needs.{needs}
 use Rattle.dj.proofs.take_unpaired.Statement.{statement}

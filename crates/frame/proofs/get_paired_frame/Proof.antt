@@ -1,5 +1,4 @@
 -- `frame::get_paired_frame` meets its contract.
-use mathlib.Core.Path.{sym, _∙_}
 use Rattle.frame.specs.WritingLaws.{dj-frame}
 use Rattle.frame.specs.Writing.{getPairedRule}
 use borrow.Author.Needs.{needs}

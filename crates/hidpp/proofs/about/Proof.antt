@@ -1,6 +1,4 @@
 -- `hidpp::about` meets its contract.
-use mathlib.Core.Path.{sym, _∙_}
-use borrow.Author.Tests.{eq-eqb, ne-eqb, le-leb, lt-leb, lt-ltb, le-ltb, not-true, not-false}
 use mathlib.Core.Path.{refl}
 use Rattle.hidpp.specs.Taking.{aboutOf}
 use Rattle.hidpp.proofs.about.Statement.{statement}

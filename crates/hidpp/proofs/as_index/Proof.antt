@@ -1,6 +1,5 @@
 -- `hidpp::as_index` meets its contract.
-use mathlib.Core.Path.{sym, _∙_}
-use borrow.Author.Tests.{eq-eqb, ne-eqb, le-leb, lt-leb, lt-ltb, le-ltb, not-true, not-false}
+use borrow.Author.Tests.{le-leb, lt-leb}
 use Rattle.hidpp.specs.Learning.{indexFrom}
 use Rattle.hidpp.proofs.as_index.Statement.{statement}
 use Rattle.hidpp.proofs.as_index.Tie as tie

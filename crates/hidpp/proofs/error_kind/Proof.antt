@@ -1,6 +1,5 @@
 -- `hidpp::error_kind` meets its contract.
-use mathlib.Core.Path.{sym, _∙_}
-use borrow.Author.Tests.{eq-eqb, ne-eqb, le-leb, lt-leb, lt-ltb, le-ltb, not-true, not-false}
+use borrow.Author.Tests.{eq-eqb, ne-eqb}
 use Rattle.hidpp.proofs.error_kind.Statement.{statement}
 use Rattle.hidpp.proofs.error_kind.Tie as tie
 

@@ -1,6 +1,5 @@
 -- `hidpp::is_battery_reply` meets its contract.
 use mathlib.Core.Path.{sym, _∙_}
-use borrow.Author.Tests.{eq-eqb, ne-eqb, le-leb, lt-leb, lt-ltb, le-ltb, not-true, not-false}
 use borrow.Author.Needs.{needs}
 use Rattle.hidpp.proofs.is_battery_reply.Statement.{statement}
 use Rattle.hidpp.proofs.is_battery_reply.Tie as tie

@@ -1,6 +1,5 @@
 -- `hidpp::is_error` meets its contract.
-use mathlib.Core.Path.{sym, _∙_}
-use borrow.Author.Tests.{eq-eqb, ne-eqb, le-leb, lt-leb, lt-ltb, le-ltb, not-true, not-false}
+use borrow.Author.Tests.{eq-eqb, ne-eqb}
 use Rattle.hidpp.proofs.is_error.Statement.{statement}
 use Rattle.hidpp.proofs.is_error.Tie as tie
 

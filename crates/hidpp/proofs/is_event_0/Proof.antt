@@ -1,6 +1,5 @@
 -- `hidpp::is_event_0` meets its contract.
 use mathlib.Core.Path.{sym, _∙_}
-use borrow.Author.Tests.{eq-eqb, ne-eqb, le-leb, lt-leb, lt-ltb, le-ltb, not-true, not-false}
 use borrow.Author.Needs.{needs}
 use Rattle.hidpp.proofs.is_event_0.Statement.{statement}
 use Rattle.hidpp.proofs.is_event_0.Tie as tie

@@ -1,6 +1,5 @@
 -- `hidpp::is_get_feature` meets its contract.
-use mathlib.Core.Path.{sym, _∙_}
-use borrow.Author.Tests.{eq-eqb, ne-eqb, le-leb, lt-leb, lt-ltb, le-ltb, not-true, not-false}
+use borrow.Author.Tests.{eq-eqb, ne-eqb}
 use Rattle.hidpp.proofs.is_get_feature.Statement.{statement}
 use Rattle.hidpp.proofs.is_get_feature.Tie as tie
 

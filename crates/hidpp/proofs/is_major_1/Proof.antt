@@ -1,6 +1,4 @@
 -- `hidpp::is_major_1` meets its contract.
-use mathlib.Core.Path.{sym, _∙_}
-use borrow.Author.Tests.{eq-eqb, ne-eqb, le-leb, lt-leb, lt-ltb, le-ltb, not-true, not-false}
 use borrow.Author.Needs.{needs}
 use Rattle.hidpp.proofs.is_major_1.Statement.{statement}
 use Rattle.hidpp.proofs.is_major_1.Tie as tie

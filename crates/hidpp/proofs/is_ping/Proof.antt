@@ -1,6 +1,5 @@
 -- `hidpp::is_ping` meets its contract.
-use mathlib.Core.Path.{sym, _∙_}
-use borrow.Author.Tests.{eq-eqb, ne-eqb, le-leb, lt-leb, lt-ltb, le-ltb, not-true, not-false}
+use borrow.Author.Tests.{eq-eqb, ne-eqb}
 use Rattle.hidpp.proofs.is_ping.Statement.{statement}
 use Rattle.hidpp.proofs.is_ping.Tie as tie
 

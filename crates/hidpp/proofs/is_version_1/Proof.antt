@@ -1,6 +1,5 @@
 -- `hidpp::is_version_1` meets its contract.
-use mathlib.Core.Path.{sym, _∙_}
-use borrow.Author.Tests.{eq-eqb, ne-eqb, le-leb, lt-leb, lt-ltb, le-ltb, not-true, not-false}
+use borrow.Author.Tests.{eq-eqb, ne-eqb}
 use borrow.Author.Needs.{needs}
 use Rattle.hidpp.proofs.is_version_1.Statement.{statement}
 use Rattle.hidpp.proofs.is_version_1.Tie as tie

@@ -1,6 +1,5 @@
 -- `hidpp::learn_battery` meets its contract.
-use mathlib.Core.Path.{sym, _∙_}
-use borrow.Author.Tests.{eq-eqb, ne-eqb, le-leb, lt-leb, lt-ltb, le-ltb, not-true, not-false}
+use borrow.Author.Tests.{le-leb, lt-leb}
 use Rattle.hidpp.specs.Learning.{batteryFrom}
 use borrow.Author.Needs.{needs}
 use Rattle.hidpp.proofs.learn_battery.Statement.{statement}

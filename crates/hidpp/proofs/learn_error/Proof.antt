@@ -1,6 +1,5 @@
 -- `hidpp::learn_error` meets its contract.
 use mathlib.Core.Path.{sym, _∙_}
-use borrow.Author.Tests.{eq-eqb, ne-eqb, le-leb, lt-leb, lt-ltb, le-ltb, not-true, not-false}
 use Rattle.hidpp.specs.Learning.{errorRead}
 use borrow.Author.Needs.{needs}
 use Rattle.hidpp.proofs.learn_error.Statement.{statement}

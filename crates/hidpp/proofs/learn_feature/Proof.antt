@@ -1,6 +1,4 @@
 -- `hidpp::learn_feature` meets its contract.
-use mathlib.Core.Path.{sym, _∙_}
-use borrow.Author.Tests.{eq-eqb, ne-eqb, le-leb, lt-leb, lt-ltb, le-ltb, not-true, not-false}
 use Rattle.hidpp.specs.Learning.{featureFound}
 use borrow.Author.Needs.{needs}
 use Rattle.hidpp.proofs.learn_feature.Statement.{statement}

@@ -1,6 +1,4 @@
 -- `hidpp::stray` meets its contract.
-use mathlib.Core.Path.{sym, _∙_}
-use borrow.Author.Tests.{eq-eqb, ne-eqb, le-leb, lt-leb, lt-ltb, le-ltb, not-true, not-false}
 use Rattle.hidpp.specs.Taking.{aboutOf}
 use borrow.Author.Needs.{needs}
 use Rattle.hidpp.proofs.stray.Statement.{statement}

@@ -1,6 +1,5 @@
 -- `hidpp::take_at` meets its contract.
 use mathlib.Core.Path.{sym, _∙_}
-use borrow.Author.Tests.{eq-eqb, ne-eqb, le-leb, lt-leb, lt-ltb, le-ltb, not-true, not-false}
 use Rattle.port.specs.WaitingLaws.{is-found, not-found}
 use mathlib.Core.Path.{ap}
 use Rattle.hidpp.specs.Taking.{replyRule, takeHidpp}

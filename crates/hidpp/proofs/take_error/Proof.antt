@@ -1,7 +1,7 @@
 -- `hidpp::take_error` meets its contract.
 use mathlib.Core.Path.{sym, _∙_}
-use borrow.Author.Tests.{eq-eqb, ne-eqb, le-leb, lt-leb, lt-ltb, le-ltb, not-true, not-false}
-use Rattle.port.specs.WaitingLaws.{is-found, not-found}
+use borrow.Author.Tests.{not-true, not-false}
+use Rattle.port.specs.WaitingLaws.{not-found}
 use Rattle.hidpp.specs.Taking.{errorRule}
 use Rattle.hidpp.specs.TakingLaws.{error-ends}
 use borrow.Author.Needs.{needs}

@@ -1,6 +1,6 @@
 -- `hidpp::take_unasked` meets its contract.
 use mathlib.Core.Path.{sym, _∙_}
-use borrow.Author.Tests.{eq-eqb, ne-eqb, le-leb, lt-leb, lt-ltb, le-ltb, not-true, not-false}
+use borrow.Author.Tests.{eq-eqb, ne-eqb, le-leb, lt-leb}
 use Rattle.hidpp.specs.Taking.{aboutOf, unaskedRule}
 use borrow.Author.Needs.{needs}
 use Rattle.hidpp.proofs.take_unasked.Statement.{statement}

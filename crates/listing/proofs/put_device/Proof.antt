@@ -2,7 +2,6 @@
 use Rattle.listing.specs.LinesLaws.{if-paired, if-unpaired}
 use lib.Dec.{lit≤}
 use Rattle.text.specs.PuttingLaws.{nothing}
-use Rattle.listing.specs.Listing.{deviceText}
 use borrow.Author.Needs.{needs}
 use Rattle.listing.proofs.put_device.Statement.{statement}
 use Rattle.listing.proofs.put_device.Tie as tie

@@ -1,9 +1,7 @@
 -- `port::count_waiting` meets its contract: the loop has counted the first i places.
 use Prim.Native.Nat.{_-_}
-use mathlib.Core.Path.{sym, _∙_}
 use native.Mathlib.Omega.{arith}
 use borrow.Author.Needs.{needs}
-use mathlib.Core.Path.{_≡_, subst}
 use Rattle.port.specs.Records.{placeCount}
 use Rattle.port.specs.SumLaws.{Summed, sum-begun, sum-more, sum-done}
 use Rattle.port.specs.Places.{oneIfWaiting}

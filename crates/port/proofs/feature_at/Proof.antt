@@ -1,6 +1,5 @@
 -- `port::feature_at` meets its contract.
-use mathlib.Core.Path.{sym, _∙_}
-use mathlib.Core.Path.{refl}
+use mathlib.Core.Path.{sym}
 use native.Mathlib.Omega.{arith}
 use mathlib.Core.Path.{ap}
 use lib.ListN.{List·getD-eq-default}

@@ -1,5 +1,5 @@
 -- `port::with_request` meets its contract: past the last place nothing is stored.
-use mathlib.Core.Path.{sym, _∙_}
+use mathlib.Core.Path.{sym}
 use native.Mathlib.Omega.{arith}
 use lib.Seq.{set-out}
 use borrow.Author.Needs.{needs}

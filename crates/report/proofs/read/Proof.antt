@@ -1,5 +1,5 @@
 -- `report::read` meets its contract: each way out has the tests that led there, and a report of its id's length has bytes 0 to 3.
-use mathlib.Core.Path.{_≡_, sym, _∙_, subst}
+use mathlib.Core.Path.{sym, _∙_, subst}
 use Prim.Native.Nat.{ℕ, _≤_}
 use borrow.Author.Tests.{eq-eqb, ne-eqb}
 use native.Mathlib.Omega.{arith}

@@ -1,6 +1,6 @@
 -- `station::Station::cancel` meets its contract.
 use mathlib.Core.Path.{sym, _∙_}
-use borrow.Author.Tests.{le-leb, lt-leb, not-true, not-false}
+use borrow.Author.Tests.{not-true, not-false}
 use Rattle.station.specs.Calls.{cancelRule}
 use Rattle.station.specs.CallsLaws.{cancelled-at}
 use borrow.Author.Needs.{needs}

@@ -1,8 +1,8 @@
--- `station::pending` meets its contract.
-use Rattle.station.specs.Calls.{pendingOf}
+-- `asking::pending` meets its contract.
+use Rattle.asking.specs.Asking.{pendingOf}
 use borrow.Author.Needs.{needs}
-use Rattle.station.proofs.pending.Statement.{statement}
-use Rattle.station.proofs.pending.Tie as tie
+use Rattle.asking.proofs.pending.Statement.{statement}
+use Rattle.asking.proofs.pending.Tie as tie
 
 byte-at-requires : tie.Need-byte-at-requires
 byte-at-requires c κs = search needs

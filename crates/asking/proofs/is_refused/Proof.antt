@@ -1,9 +1,9 @@
--- `station::is_refused` meets its contract.
+-- `asking::is_refused` meets its contract.
 use mathlib.Core.Path.{sym, _∙_}
-use borrow.Author.Tests.{le-leb, lt-leb, not-true, not-false}
+use borrow.Author.Tests.{le-leb, lt-leb}
 use borrow.Author.Needs.{needs}
-use Rattle.station.proofs.is_refused.Statement.{statement}
-use Rattle.station.proofs.is_refused.Tie as tie
+use Rattle.asking.proofs.is_refused.Statement.{statement}
+use Rattle.asking.proofs.is_refused.Tie as tie
 
 is-forbidden-requires : tie.Need-is-forbidden-requires
 is-forbidden-requires c κs = search needs
