@@ -201,32 +201,35 @@ static double now(void)
     return (double)t.tv_sec * 1e9 + (double)t.tv_nsec;
 }
 
-/* Nanoseconds of one run: the best of several trials. */
+/* Nanoseconds of one run. */
 static double timed(void (*make)(struct outcome *))
 {
-    enum { TRIALS = 15, ROUNDS = 200 };
+    enum { ROUNDS = 50 };
     static struct outcome outcome;
-    double best = 0;
+    double start = now();
 
-    for (int trial = 0; trial < TRIALS; trial++) {
-        double start = now(), took;
-
-        for (int i = 0; i < ROUNDS; i++)
-            make(&outcome);
-        took = (now() - start) / ROUNDS;
-        if (trial == 0 || took < best)
-            best = took;
-    }
-    return best;
+    for (int i = 0; i < ROUNDS; i++)
+        make(&outcome);
+    return (now() - start) / ROUNDS;
 }
 
+static void keep_least(double *least, double took)
+{
+    if (*least == 0 || took < *least)
+        *least = took;
+}
+
+/* The best of many trials, each of which goes through all scripts, so that a slow spell meets all of them. */
 static void print_times(void)
 {
-    double library[SCRIPT_COUNT], plain[SCRIPT_COUNT];
+    enum { TRIALS = 150 };
+    double library[SCRIPT_COUNT] = {0}, plain[SCRIPT_COUNT] = {0};
 
-    for (int i = 0; i < SCRIPT_COUNT; i++) {
-        library[i] = timed(made[i].library);
-        plain[i] = timed(made[i].plain);
+    for (int trial = 0; trial < TRIALS; trial++) {
+        for (int i = 0; i < SCRIPT_COUNT; i++) {
+            keep_least(&library[i], timed(made[i].library));
+            keep_least(&plain[i], timed(made[i].plain));
+        }
     }
     for (int i = 0; i < LINES; i++) {
         int script = lines[i].script, from = lines[i].from;
