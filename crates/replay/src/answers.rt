@@ -18,7 +18,7 @@ pub struct Run {
 }
 
 // Writes what the output buffer holds.
-pub fn flush(run: Run, output: &[u8]) -> Run
+pub(crate) fn flush(run: Run, output: &[u8]) -> Run
     requires { ⌜ run .filled ≤ length (now output) ⌝ }
     ensures { λ r. ⌜ r .filled ≡ 0 ⌝ }
 {
@@ -49,7 +49,7 @@ fn make_room(run: Run, output: &[u8]) -> Run
 }
 
 // Answers the next line.
-pub fn answer(run: Run, line: &[u8], output: &mut [u8]) -> Run
+pub(crate) fn answer(run: Run, line: &[u8], output: &mut [u8]) -> Run
     requires { ⌜ run .filled ≤ length (now output) ⌝ }
     ensures { λ r. ⌜ r .filled ≤ length (now (output .exit)) ⌝ }
 {
@@ -79,7 +79,7 @@ pub struct Answered {
 }
 
 // Answers every whole line.
-pub fn answer_lines(run: Run, text: &[u8], output: &mut [u8]) -> Answered
+pub(crate) fn answer_lines(run: Run, text: &[u8], output: &mut [u8]) -> Answered
     requires { ⌜ run .filled ≤ length (now output) ⌝ }
     ensures { λ r. ⌜ r .used ≤ length (now (text .entry)) ⌝ }
     ensures { λ r. ⌜ r .run .filled ≤ length (now (output .exit)) ⌝ }

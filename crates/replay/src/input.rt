@@ -11,7 +11,7 @@ const SPACE: u8 = 32;
 pub const LONGEST: usize = 1024;
 
 // Moves the bytes between two places down to another place, and answers where they end.
-pub fn move_down(buffer: &mut [u8], to: usize, from: usize, end: usize) -> usize
+pub(crate) fn move_down(buffer: &mut [u8], to: usize, from: usize, end: usize) -> usize
     requires order { ⌜ to ≤ from ⌝ }
     requires part { ⌜ from ≤ end ⌝ }
     requires within { ⌜ end ≤ length (now buffer) ⌝ }
@@ -76,7 +76,7 @@ pub struct Held {
 }
 
 // Makes room behind what is held. A line that fills the buffer has its spaces squeezed; one that is still longer than any call is cut. Either way it stays the call that it is.
-pub fn hold(buffer: &mut [u8], held: usize) -> Held
+pub(crate) fn hold(buffer: &mut [u8], held: usize) -> Held
     requires held { ⌜ held ≤ length (now buffer) ⌝ }
     requires room { ⌜ longest < length (now buffer) ⌝ }
     ensures room { λ r. ⌜ r .size < length (now (buffer .exit)) ⌝ }
