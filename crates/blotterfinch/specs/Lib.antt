@@ -1,4 +1,2 @@
-pub mod Reports
-pub mod Frames
-pub mod Movements
-pub mod FramesLaws
+pub mod CContracts
+pub mod CLaws

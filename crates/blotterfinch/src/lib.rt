@@ -1,13 +1,14 @@
 // The functions exported to C, over byte slices and numbers. The C side is include/blotterfinch.h.
 ghost use mathlib.Core.Path.{_≡_};
 ghost use Rattle.report.specs.Reading.{readRule};
-ghost use Rattle.frame.specs.Writing.{meaning, requestRule, switchRule, getPairedRule, ledRule};
+ghost use Rattle.report.specs.ReportContracts.{djOf};
+ghost use Rattle.frame.specs.Writing.{requestFrameRule, switchRule, getPairedRule, ledRule};
+ghost use Rattle.frame.specs.FrameContracts.{writtenOf};
 ghost use Rattle.mouse.specs.Movement.{mouseRule};
-ghost use Rattle.blotterfinch.specs.Reports.{cReport};
-ghost use Rattle.blotterfinch.specs.Frames.{cWritten, cEnded, cOutcome};
-ghost use Rattle.blotterfinch.specs.Movements.{cMovement};
+ghost use Rattle.blotterfinch.specs.CContracts.{cWhole, cReport, cWritten, cEnded, cOutcome, cMovement};
 use mouse::Moved;
 use report::Device;
+use report::DjReport;
 use report::FeatureIndex;
 use report::Reading;
 
@@ -41,10 +42,24 @@ pub struct Movement {
     pub refusal: u8,
 }
 
+fn dj_report(d: DjReport) -> Report
+    ensures { λ r. ⌜ r ≡ cWhole (djOf d) ⌝ }
+{
+    Report {
+        refusal: 0,
+        id: d.id,
+        device: d.device.0,
+        byte2: d.kind,
+        byte3: d.p0,
+        start: d.start,
+        length: d.length,
+    }
+}
+
 // Reads one report: refusals 1 to 6.
 #[no_mangle]
 pub extern "C" fn blotterfinch_read(bytes: &[u8]) -> Report
-    ensures { λ r. ⌜ r ≡ cReport (readRule (now (bytes .entry))) ⌝ }
+    ensures report { λ r. ⌜ r ≡ cReport (readRule (now (bytes .entry))) ⌝ }
 {
     match report::read(bytes) {
         Reading::Refused(refusal) => Report {
@@ -65,20 +80,13 @@ pub extern "C" fn blotterfinch_read(bytes: &[u8]) -> Report
             start: h.start,
             length: h.length,
         },
-        Reading::Dj(d) => Report {
-            refusal: 0,
-            id: d.id,
-            device: d.device.0,
-            byte2: d.kind,
-            byte3: d.p0,
-            start: d.start,
-            length: d.length,
-        },
+        Reading::Dj(d) => dj_report(d),
+        Reading::EmptyList(d) => dj_report(d),
     }
 }
 
 fn to_c(written: frame::Written) -> Written
-    ensures { λ r. ⌜ r ≡ cWritten (meaning written) ⌝ }
+    ensures { λ r. ⌜ r ≡ cWritten (writtenOf written) ⌝ }
 {
     match written {
         frame::Written::Refused(r) => Written {
@@ -100,9 +108,9 @@ pub extern "C" fn blotterfinch_request_frame(
     byte3: u8,
     parameters: &[u8],
     buffer: &mut [u8],
-    place: usize,
+    offset: usize,
 ) -> Written
-    ensures { λ r. ⌜ cEnded r (now (buffer .exit)) ≡ cOutcome (requestRule device byte2 byte3 (now (parameters .entry)) place (now (buffer .entry))) ⌝ }
+    ensures outcome { λ r. ⌜ cEnded r (now (buffer .exit)) ≡ cOutcome (requestFrameRule device byte2 byte3 (now (parameters .entry)) offset (now (buffer .entry))) ⌝ }
 {
     to_c(frame::request_frame(
         Device(device),
@@ -110,7 +118,7 @@ pub extern "C" fn blotterfinch_request_frame(
         byte3,
         parameters,
         buffer,
-        place,
+        offset,
     ))
 }
 
@@ -120,19 +128,19 @@ pub extern "C" fn blotterfinch_switch_frame(
     bits: u8,
     timeout: u8,
     buffer: &mut [u8],
-    place: usize,
+    offset: usize,
 ) -> Written
-    ensures { λ r. ⌜ cEnded r (now (buffer .exit)) ≡ cOutcome (switchRule bits timeout place (now (buffer .entry))) ⌝ }
+    ensures outcome { λ r. ⌜ cEnded r (now (buffer .exit)) ≡ cOutcome (switchRule bits timeout offset (now (buffer .entry))) ⌝ }
 {
-    to_c(frame::switch_frame(bits, timeout, buffer, place))
+    to_c(frame::switch_frame(bits, timeout, buffer, offset))
 }
 
 // Writes the DJ command that asks for the paired devices: refusal 10.
 #[no_mangle]
-pub extern "C" fn blotterfinch_get_paired_frame(buffer: &mut [u8], place: usize) -> Written
-    ensures { λ r. ⌜ cEnded r (now (buffer .exit)) ≡ cOutcome (getPairedRule place (now (buffer .entry))) ⌝ }
+pub extern "C" fn blotterfinch_get_paired_frame(buffer: &mut [u8], offset: usize) -> Written
+    ensures outcome { λ r. ⌜ cEnded r (now (buffer .exit)) ≡ cOutcome (getPairedRule offset (now (buffer .entry))) ⌝ }
 {
-    to_c(frame::get_paired_frame(buffer, place))
+    to_c(frame::get_paired_frame(buffer, offset))
 }
 
 // Writes the keyboard LEDs of a device: refusals 5 and 10.
@@ -141,17 +149,17 @@ pub extern "C" fn blotterfinch_led_frame(
     device: u8,
     leds: u8,
     buffer: &mut [u8],
-    place: usize,
+    offset: usize,
 ) -> Written
-    ensures { λ r. ⌜ cEnded r (now (buffer .exit)) ≡ cOutcome (ledRule device leds place (now (buffer .entry))) ⌝ }
+    ensures outcome { λ r. ⌜ cEnded r (now (buffer .exit)) ≡ cOutcome (ledRule device leds offset (now (buffer .entry))) ⌝ }
 {
-    to_c(frame::led_frame(Device(device), leds, buffer, place))
+    to_c(frame::led_frame(Device(device), leds, buffer, offset))
 }
 
 // Reads a mouse payload: refusal 3.
 #[no_mangle]
 pub extern "C" fn blotterfinch_mouse(payload: &[u8]) -> Movement
-    ensures { λ r. ⌜ r ≡ cMovement (mouseRule (now (payload .entry))) ⌝ }
+    ensures movement { λ r. ⌜ r ≡ cMovement (mouseRule (now (payload .entry))) ⌝ }
 {
     match mouse::movement(payload) {
         Moved::Refused(why) => Movement {

@@ -1,2 +1,3 @@
-pub mod Taking
-pub mod TakingLaws
+pub mod DjTaking
+pub mod DjContracts
+pub mod DjTakingLaws

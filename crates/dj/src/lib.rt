@@ -1,10 +1,11 @@
 // Taking a DJ report at the port that it names.
 ghost use mathlib.Core.Path.{_≡_};
-ghost use mathlib.Core.Bool.{not};
-ghost use Prim.Native.Nat.{_+_, _*_};
 ghost use Rattle.report.specs.Sizes.{bit};
-ghost use Rattle.port.specs.Answers.{meaning, resultOf};
-ghost use Rattle.dj.specs.Taking.{isDeclared, isHeard, heardAs, radioRule, unpairedRule, wpidOf, reportsOf, pairedPort, isSamePad, pairedRule, linkRule, otherRule, takeDj};
+ghost use Rattle.report.specs.ReportContracts.{djOf};
+ghost use Rattle.port.specs.Records.{madeFresh, withPairing};
+ghost use Rattle.port.specs.PortContracts.{takenOf, resultOf};
+ghost use Rattle.dj.specs.DjContracts.{isAccepted};
+ghost use Rattle.dj.specs.DjTaking.{p, isDeclared, radioAnswer, radioRule, unpairedRule, wpidOf, reportsOf, isPairedWith, pairedRule, linkRule, otherRule, takeDj};
 use port::Port;
 use port::answer::Notice;
 use port::answer::PortTaken;
@@ -24,9 +25,9 @@ fn is_declared(reports: u32, kind: u8) -> bool
     false
 }
 
-// Whether a radio report of this type is taken.
-pub fn is_heard(paired: bool, reports: u32, kind: u8) -> bool
-    ensures { λ r. ⌜ r ≡ isHeard paired reports kind ⌝ }
+// Whether a radio report of this type is accepted from a device.
+pub fn is_accepted(paired: bool, reports: u32, kind: u8) -> bool
+    ensures accepted { λ r. ⌜ r ≡ isAccepted paired reports kind ⌝ }
 {
     if paired {
         return is_declared(reports, kind);
@@ -34,9 +35,9 @@ pub fn is_heard(paired: bool, reports: u32, kind: u8) -> bool
     false
 }
 
-// The answer to a radio report that is taken, with so many bytes after its type.
-pub fn heard(kind: u8, following: u8) -> Taken
-    ensures { λ r. ⌜ meaning r ≡ heardAs kind following ⌝ }
+// The answer to a radio report that is accepted, with `following` bytes after its type.
+pub fn radio_answer(kind: u8, following: u8) -> Taken
+    ensures answer { λ r. ⌜ takenOf r ≡ radioAnswer kind following ⌝ }
 {
     let length = radio::payload_length(kind, following);
     Taken::Radio {
@@ -46,8 +47,8 @@ pub fn heard(kind: u8, following: u8) -> Taken
     }
 }
 
-// A radio report with so many bytes after its type.
-pub fn take_radio(port: Port, kind: u8, following: u8) -> PortTaken
+// A radio report with `following` bytes after its type.
+fn take_radio(port: Port, kind: u8, following: u8) -> PortTaken
     ensures { λ r. ⌜ resultOf r ≡ radioRule port kind following ⌝ }
 {
     if !port.paired {
@@ -63,7 +64,7 @@ pub fn take_radio(port: Port, kind: u8, following: u8) -> PortTaken
         };
     }
     PortTaken {
-        answer: heard(kind, following),
+        answer: radio_answer(kind, following),
         port: port::with_link(port, true),
     }
 }
@@ -78,53 +79,49 @@ fn take_unpaired(port: Port, device: Device) -> PortTaken
             port: device,
             dropped,
         }),
-        port: port::fresh(),
+        port: port::made_fresh(port),
     }
 }
 
-// Two bytes, the lowest first.
-fn join2(a: u8, b: u8) -> u16
-    ensures { λ r. ⌜ r ≡ a + 256 * b ⌝ }
+// The parameter with this number: p0, p1 and so on.
+fn p(bytes: &[u8], i: u8) -> u8
+    ensures { λ r. ⌜ r ≡ p (now (bytes .entry)) i ⌝ }
 {
-    (a as u16) + 256 * (b as u16)
+    report::byte_at(bytes, report::DJ_START as usize + i as usize)
 }
 
-// Four bytes, the lowest first.
-fn join4(a: u8, b: u8, c: u8, d: u8) -> u32
-    ensures { λ r. ⌜ r ≡ a + 256 * b + 65536 * c + 16777216 * d ⌝ }
+// Bit 0 of p0: more devices follow a 0x41, the link is down at a 0x42.
+fn has_bit_0(bytes: &[u8]) -> bool
+    ensures { λ r. ⌜ r ≡ bit 0 (p (now (bytes .entry)) 0) ⌝ }
 {
-    (a as u32) + 256 * (b as u32) + 65536 * (c as u32) + 16777216 * (d as u32)
+    p(bytes, 0) % 2 == 1
 }
 
 fn wpid_of(bytes: &[u8]) -> u16
     ensures { λ r. ⌜ r ≡ wpidOf (now (bytes .entry)) ⌝ }
 {
-    join2(report::byte_at(bytes, 4), report::byte_at(bytes, 5))
+    report::join2(p(bytes, 1), p(bytes, 2))
 }
 
 fn reports_of(bytes: &[u8]) -> u32
     ensures { λ r. ⌜ r ≡ reportsOf (now (bytes .entry)) ⌝ }
 {
-    join4(
-        report::byte_at(bytes, 6),
-        report::byte_at(bytes, 7),
-        report::byte_at(bytes, 8),
-        report::byte_at(bytes, 9),
-    )
+    report::join4(p(bytes, 3), p(bytes, 4), p(bytes, 5), p(bytes, 6))
 }
 
-fn paired_port(wpid: u16, reports: u32) -> Port
-    ensures { λ r. ⌜ r ≡ pairedPort wpid reports ⌝ }
+// The port made fresh, and paired with these.
+fn paired_anew(port: Port, wpid: u16, reports: u32) -> Port
+    ensures { λ r. ⌜ r ≡ withPairing (madeFresh port) wpid reports ⌝ }
 {
-    let mut port = port::fresh();
-    port.paired = true;
-    port.wpid = wpid;
-    port.reports = reports;
-    port
+    let mut next = port::made_fresh(port);
+    next.paired = true;
+    next.wpid = wpid;
+    next.reports = reports;
+    next
 }
 
-fn is_same_pad(port: Port, wpid: u16) -> bool
-    ensures { λ r. ⌜ r ≡ isSamePad port wpid ⌝ }
+fn is_paired_with(port: Port, wpid: u16) -> bool
+    ensures { λ r. ⌜ r ≡ isPairedWith port wpid ⌝ }
 {
     if port.paired {
         return port.wpid == wpid;
@@ -135,7 +132,7 @@ fn is_same_pad(port: Port, wpid: u16) -> bool
 fn take_paired(port: Port, device: Device, more: bool, wpid: u16, reports: u32) -> PortTaken
     ensures { λ r. ⌜ resultOf r ≡ pairedRule port (device .0) more wpid reports ⌝ }
 {
-    if is_same_pad(port, wpid) {
+    if is_paired_with(port, wpid) {
         let mut same = port;
         same.reports = reports;
         return PortTaken {
@@ -159,7 +156,7 @@ fn take_paired(port: Port, device: Device, more: bool, wpid: u16, reports: u32) 
             reports,
             dropped,
         }),
-        port: paired_port(wpid, reports),
+        port: paired_anew(port, wpid, reports),
     }
 }
 
@@ -187,16 +184,9 @@ fn take_other(port: Port, device: Device, kind: u8) -> PortTaken
     }
 }
 
-// Bit 0.
-fn is_odd(p0: u8) -> bool
-    ensures { λ r. ⌜ r ≡ bit 0 p0 ⌝ }
-{
-    p0 % 2 == 1
-}
-
-// Takes the report at its port. An empty list has none and does not come here.
+// Takes the report at its port.
 pub fn take_at(port: Port, d: DjReport, bytes: &[u8]) -> PortTaken
-    ensures { λ r. ⌜ resultOf r ≡ takeDj port (d .device .0) (d .kind) (d .p0) (d .length) (now (bytes .entry)) ⌝ }
+    ensures result { λ r. ⌜ resultOf r ≡ takeDj port (djOf d) (now (bytes .entry)) ⌝ }
 {
     let kind = d.kind;
     let device = d.device;
@@ -209,12 +199,12 @@ pub fn take_at(port: Port, d: DjReport, bytes: &[u8]) -> PortTaken
             take_paired(
                 port,
                 device,
-                is_odd(d.p0),
+                has_bit_0(bytes),
                 wpid_of(bytes),
                 reports_of(bytes),
             )
         }
-        report::DJ_CONNECTION => take_link(port, device, !is_odd(d.p0)),
+        report::DJ_CONNECTION => take_link(port, device, !has_bit_0(bytes)),
         _ => take_other(port, device, kind),
     }
 }

@@ -15,7 +15,7 @@ headed part a b c d = set (set (set (set part 0 a) 1 b) 2 c) 3 d
 pub length-headed : (part : List ℕ) (a b c d : ℕ) → length (headed part a b c d) ≡ length part
 length-headed part a b c d = simp length-set
 
--- the loop's state: of the rest, the first i bytes stand after the head
+-- the loop's state: of the rest, the first i bytes follow the head
 pub record Filling (part₀ rest part : List ℕ) (i : ℕ) : Type 0 where
   pub within : i ≤ length rest
   pub room : 4 + length rest ≤ length part₀

@@ -1,5 +1,5 @@
-pub mod Requests
+pub mod Forbidden
 pub mod Writing
-pub mod Heads
+pub mod FrameContracts
 pub mod FillLaws
 pub mod WritingLaws

@@ -4,40 +4,38 @@ use mathlib.Core.List.{List, _∷_, _++_}
 use mathlib.Core.Bool.{Bool, cond, not, _||_}
 use lib.ListN.{length, take, drop, replicate}
 use lib.Dec.{leb}
-use Rattle.report.specs.Refusals.{numberOf, noSuchPort, forbidden, noRoom, reservedBits}
+use Rattle.report.specs.Refusals.{noSuchPort, forbidden, noRoom, reservedBits}
 use Rattle.report.specs.Ports.{receiver, isDevice, isPort}
 use Rattle.report.specs.Sizes.{hidppShort, hidppLong, djShort, bit}
-use Rattle.frame.specs.Requests.{isShort, isForbidden}
-use Rattle.frame.specs.declared.Written.{Written}
-use Rattle.frame.specs.declared.Written.the-variants.{Refused, Bytes}
+use Rattle.frame.specs.Forbidden.{isShort, isForbiddenFrame}
 
 -- what a writer answers: the refusal's number, or the number of bytes written
-pub data Answer : Type 0 where
-  refused : ℕ → Answer
-  wrote : ℕ → Answer
+pub data WriteAnswer : Type 0 where
+  refused : ℕ → WriteAnswer
+  wrote : ℕ → WriteAnswer
 
 -- what a writer leaves: its answer, and the lent buffer
-pub record Outcome : Type 0 where
-  pub answer : Answer
+pub record WriteOutcome : Type 0 where
+  pub answer : WriteAnswer
   pub lent : List ℕ
 
--- the frame at its place; the bytes before and after it keep their values
+-- the frame at its offset; the bytes before and after it keep their values
 abbrev pub pasted : List ℕ → ℕ → List ℕ → List ℕ
-pasted frame place lent = take place lent ++ (frame ++ drop (place + length frame) lent)
+pasted frame offset lent = take offset lent ++ (frame ++ drop (offset + length frame) lent)
 
--- so many bytes fit between the place and the buffer's end
+-- this number of bytes fits between the offset and the buffer's end
 abbrev pub fitsAt : ℕ → ℕ → ℕ → Bool
-fitsAt size place room = leb (place + size) room
+fitsAt size offset room = leb (offset + size) room
 
 -- a refusal leaves the buffer as it stood
-abbrev pub kept : ℕ → List ℕ → Outcome
+abbrev pub kept : ℕ → List ℕ → WriteOutcome
 kept number lent = record { answer = refused number; lent = lent }
 
 -- the whole frame, or 10
-unfoldable pub frameAt : List ℕ → ℕ → List ℕ → Outcome
-frameAt frame place lent =
-    cond (fitsAt (length frame) place (length lent))
-    (record { answer = wrote (length frame); lent = pasted frame place lent })
+unfoldable pub frameAt : List ℕ → ℕ → List ℕ → WriteOutcome
+frameAt frame offset lent =
+    cond (fitsAt (length frame) offset (length lent))
+    (record { answer = wrote (length frame); lent = pasted frame offset lent })
     (kept noRoom lent)
 
 -- short with 3 parameters, else long
@@ -62,37 +60,28 @@ abbrev pub ledFrame : ℕ → ℕ → List ℕ
 ledFrame device leds = djShort ∷ device ∷ 0x0E ∷ leds ∷ replicate 11 0
 
 -- 5, 9, 10
-unfoldable pub requestRule : ℕ → ℕ → ℕ → List ℕ → ℕ → List ℕ → Outcome
-requestRule device byte2 byte3 params place lent =
+unfoldable pub requestFrameRule : ℕ → ℕ → ℕ → List ℕ → ℕ → List ℕ → WriteOutcome
+requestFrameRule device byte2 byte3 params offset lent =
     cond (not (isPort device)) (kept noSuchPort lent)
-    (cond (isForbidden byte2 byte3 params) (kept forbidden lent)
-    (frameAt (requestFrame device byte2 byte3 params) place lent))
+    (cond (isForbiddenFrame byte2 byte3 params) (kept forbidden lent)
+    (frameAt (requestFrame device byte2 byte3 params) offset lent))
 
 -- bit 6 or 7 of the device bits
 abbrev pub hasReservedBits : ℕ → Bool
 hasReservedBits bits = bit 6 bits || bit 7 bits
 
 -- 14, 10
-unfoldable pub switchRule : ℕ → ℕ → ℕ → List ℕ → Outcome
-switchRule bits timeout place lent =
+unfoldable pub switchRule : ℕ → ℕ → ℕ → List ℕ → WriteOutcome
+switchRule bits timeout offset lent =
     cond (hasReservedBits bits) (kept reservedBits lent)
-    (frameAt (switchFrame bits timeout) place lent)
+    (frameAt (switchFrame bits timeout) offset lent)
 
 -- 10
-unfoldable pub getPairedRule : ℕ → List ℕ → Outcome
-getPairedRule place lent = frameAt getPairedFrame place lent
+unfoldable pub getPairedRule : ℕ → List ℕ → WriteOutcome
+getPairedRule offset lent = frameAt getPairedFrame offset lent
 
 -- 5, 10
-unfoldable pub ledRule : ℕ → ℕ → ℕ → List ℕ → Outcome
-ledRule device leds place lent =
+unfoldable pub ledRule : ℕ → ℕ → ℕ → List ℕ → WriteOutcome
+ledRule device leds offset lent =
     cond (not (isDevice device)) (kept noSuchPort lent)
-    (frameAt (ledFrame device leds) place lent)
-
--- the program's answer, in these terms
-abbrev pub meaning : Written → Answer
-meaning (Refused r) = refused (numberOf r)
-meaning (Bytes n) = wrote n
-
--- how a call of the program ended: its answer, and the buffer that it left
-abbrev pub ended : Written → List ℕ → Outcome
-ended written lent = record { answer = meaning written; lent = lent }
+    (frameAt (ledFrame device leds) offset lent)

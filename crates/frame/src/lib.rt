@@ -1,10 +1,10 @@
-// Writing one frame at a place of a lent buffer, without a station.
+// Writing one frame at an offset of a lent buffer, without a station.
 ghost use mathlib.Core.Path.{_≡_};
 ghost use Prim.Native.Nat.{_+_, _≤_};
 ghost use lib.ListN.{length};
-ghost use Rattle.frame.specs.Requests.{isSized, isAskable, isMisfit, isAnonymous, asksNothing, isForbidden};
-ghost use Rattle.frame.specs.Heads.{headSize, framed, djHead};
-ghost use Rattle.frame.specs.Writing.{ended, pasted, frameAt, fitsAt, requestRule, switchRule, getPairedRule, ledRule, requestId, hasReservedBits};
+ghost use Rattle.frame.specs.Forbidden.{isSized, isAskable, hasWrongSize, lacksSoftwareId, namesNoFeature, isForbiddenFrame};
+ghost use Rattle.frame.specs.FrameContracts.{headSize, framed, djHead, writtenOutcome};
+ghost use Rattle.frame.specs.Writing.{pasted, frameAt, fitsAt, requestFrame, requestFrameRule, switchRule, getPairedRule, ledRule, requestId, hasReservedBits};
 use report::Device;
 use report::FeatureIndex;
 use report::Refusal;
@@ -12,7 +12,7 @@ use report::Refusal;
 // What a writer answers.
 pub enum Written {
     Refused(Refusal),
-    // So many bytes stand at the place.
+    // The number of bytes written at the offset.
     Bytes(usize),
 }
 
@@ -36,19 +36,22 @@ pub const GET_PAIRED: u8 = 0x81;
 // Bytes 0 to 3 of a frame.
 pub const HEAD: usize = 4;
 
-// Whether `size` bytes fit between the place and the end of a buffer of `room` bytes.
-pub fn fits(size: usize, place: usize, room: usize) -> bool
-    ensures { λ r. ⌜ r ≡ fitsAt size place room ⌝ }
+// The other bytes of a short DJ frame.
+const DJ_REST: usize = 11;
+
+// Whether `size` bytes fit between the offset and the end of a buffer of `room` bytes.
+pub fn fits(size: usize, offset: usize, room: usize) -> bool
+    ensures fitting { λ r. ⌜ r ≡ fitsAt size offset room ⌝ }
 {
-    if room < place {
+    if room < offset {
         return false;
     }
-    size <= room - place
+    size <= room - offset
 }
 
 // A register request at a size that its sub id does not have.
-fn is_misfit(byte2: FeatureIndex, size: usize) -> bool
-    ensures { λ r. ⌜ r ≡ isMisfit (byte2 .0) size ⌝ }
+fn has_wrong_size(byte2: FeatureIndex, size: usize) -> bool
+    ensures { λ r. ⌜ r ≡ hasWrongSize (byte2 .0) size ⌝ }
 {
     let sub_id = byte2.0;
     match sub_id {
@@ -61,8 +64,8 @@ fn is_misfit(byte2: FeatureIndex, size: usize) -> bool
 }
 
 // A GetFeature request for no feature.
-fn asks_nothing(byte2: FeatureIndex, byte3: u8, params: &[u8]) -> bool
-    ensures { λ r. ⌜ r ≡ asksNothing (byte2 .0) byte3 (now (params .entry)) ⌝ }
+fn names_no_feature(byte2: FeatureIndex, byte3: u8, params: &[u8]) -> bool
+    ensures { λ r. ⌜ r ≡ namesNoFeature (byte2 .0) byte3 (now (params .entry)) ⌝ }
 {
     if byte2.0 != 0 {
         return false;
@@ -76,7 +79,7 @@ fn asks_nothing(byte2: FeatureIndex, byte3: u8, params: &[u8]) -> bool
     report::byte_at(params, 1) == 0
 }
 
-// Whether the parameters are as many as a request has.
+// Whether a request has this number of parameters.
 fn is_sized(size: usize) -> bool
     ensures { λ r. ⌜ r ≡ isSized size ⌝ }
 {
@@ -87,8 +90,8 @@ fn is_sized(size: usize) -> bool
 }
 
 // A HID++ 2.0 request without a software id: its reply would pass for an event.
-fn is_anonymous(byte2: FeatureIndex, byte3: u8) -> bool
-    ensures { λ r. ⌜ r ≡ isAnonymous (byte2 .0) byte3 ⌝ }
+fn lacks_software_id(byte2: FeatureIndex, byte3: u8) -> bool
+    ensures { λ r. ⌜ r ≡ lacksSoftwareId (byte2 .0) byte3 ⌝ }
 {
     if byte2.0 < report::SUB_IDS {
         return byte3 % 16 == 0;
@@ -106,9 +109,9 @@ fn is_askable(byte2: FeatureIndex) -> bool
     report::within(SET_REGISTER, byte2.0, GET_LONG_REGISTER)
 }
 
-// 01, Number 9, but for the ticks.
-pub fn is_forbidden(byte2: FeatureIndex, byte3: u8, params: &[u8]) -> bool
-    ensures { λ r. ⌜ r ≡ isForbidden (byte2 .0) byte3 (now (params .entry)) ⌝ }
+// 01, Number 9, except for the ticks.
+pub fn is_forbidden_frame(byte2: FeatureIndex, byte3: u8, params: &[u8]) -> bool
+    ensures forbidden { λ r. ⌜ r ≡ isForbiddenFrame (byte2 .0) byte3 (now (params .entry)) ⌝ }
 {
     if !is_sized(params.len()) {
         return true;
@@ -116,13 +119,13 @@ pub fn is_forbidden(byte2: FeatureIndex, byte3: u8, params: &[u8]) -> bool
     if !is_askable(byte2) {
         return true;
     }
-    if is_misfit(byte2, params.len()) {
+    if has_wrong_size(byte2, params.len()) {
         return true;
     }
-    if is_anonymous(byte2, byte3) {
+    if lacks_software_id(byte2, byte3) {
         return true;
     }
-    asks_nothing(byte2, byte3, params)
+    names_no_feature(byte2, byte3, params)
 }
 
 // Bytes 0 to 3 of a frame. Byte 2 is a feature index, a sub id or a DJ type.
@@ -149,19 +152,19 @@ fn fill(part: &mut [u8], head: Head, rest: &[u8])
     }
 }
 
-// Writes the frame at its place, or answers 10.
-fn write_at(head: Head, rest: &[u8], buffer: &mut [u8], place: usize) -> Written
-    ensures { λ r. ⌜ ended r (now (buffer .exit)) ≡ frameAt (framed head (now (rest .entry))) place (now (buffer .entry)) ⌝ }
+// Writes the frame at its offset, or answers 10.
+fn write_at(head: Head, rest: &[u8], buffer: &mut [u8], offset: usize) -> Written
+    ensures { λ r. ⌜ writtenOutcome r (now (buffer .exit)) ≡ frameAt (framed head (now (rest .entry))) offset (now (buffer .entry)) ⌝ }
 {
     let size = HEAD + rest.len();
-    if fits(size, place, buffer.len()) {
-        fill(&mut buffer[place..], head, rest);
+    if fits(size, offset, buffer.len()) {
+        fill(&mut buffer[offset..], head, rest);
         return Written::Bytes(size);
     }
     Written::Refused(Refusal::NoRoom)
 }
 
-// The id of a request with so many parameters.
+// The id of a request with this number of parameters.
 fn request_id(size: usize) -> u8
     ensures { λ r. ⌜ r ≡ requestId size ⌝ }
 {
@@ -181,23 +184,17 @@ fn has_reserved_bits(bits: u8) -> bool
     bits / 128 % 2 == 1
 }
 
-// Writes a request frame: refusals 5, 9 and 10.
-pub fn request_frame(
+// Writes a request frame that is not asked about: refusal 10.
+pub fn write_request(
     device: Device,
     byte2: FeatureIndex,
     byte3: u8,
     params: &[u8],
     buffer: &mut [u8],
-    place: usize,
+    offset: usize,
 ) -> Written
-    ensures { λ r. ⌜ ended r (now (buffer .exit)) ≡ requestRule (device .0) (byte2 .0) byte3 (now (params .entry)) place (now (buffer .entry)) ⌝ }
+    ensures outcome { λ r. ⌜ writtenOutcome r (now (buffer .exit)) ≡ frameAt (requestFrame (device .0) (byte2 .0) byte3 (now (params .entry))) offset (now (buffer .entry)) ⌝ }
 {
-    if !report::is_port(device) {
-        return Written::Refused(Refusal::NoSuchPort);
-    }
-    if is_forbidden(byte2, byte3, params) {
-        return Written::Refused(Refusal::Forbidden);
-    }
     let id = request_id(params.len());
     let head = Head {
         id,
@@ -205,7 +202,27 @@ pub fn request_frame(
         byte2: byte2.0,
         byte3,
     };
-    write_at(head, params, buffer, place)
+    write_at(head, params, buffer, offset)
+}
+
+// Writes a request frame: refusals 5, 9 and 10.
+pub fn request_frame(
+    device: Device,
+    byte2: FeatureIndex,
+    byte3: u8,
+    params: &[u8],
+    buffer: &mut [u8],
+    offset: usize,
+) -> Written
+    ensures outcome { λ r. ⌜ writtenOutcome r (now (buffer .exit)) ≡ requestFrameRule (device .0) (byte2 .0) byte3 (now (params .entry)) offset (now (buffer .entry)) ⌝ }
+{
+    if !report::is_port(device) {
+        return Written::Refused(Refusal::NoSuchPort);
+    }
+    if is_forbidden_frame(byte2, byte3, params) {
+        return Written::Refused(Refusal::Forbidden);
+    }
+    write_request(device, byte2, byte3, params, buffer, offset)
 }
 
 fn dj_head(device: Device, kind: u8, p0: u8) -> Head
@@ -220,42 +237,47 @@ fn dj_head(device: Device, kind: u8, p0: u8) -> Head
 }
 
 // Writes the switch command: refusals 14 and 10.
-pub fn switch_frame(bits: u8, timeout: u8, buffer: &mut [u8], place: usize) -> Written
-    ensures { λ r. ⌜ ended r (now (buffer .exit)) ≡ switchRule bits timeout place (now (buffer .entry)) ⌝ }
+pub fn switch_frame(bits: u8, timeout: u8, buffer: &mut [u8], offset: usize) -> Written
+    ensures outcome { λ r. ⌜ writtenOutcome r (now (buffer .exit)) ≡ switchRule bits timeout offset (now (buffer .entry)) ⌝ }
 {
     if has_reserved_bits(bits) {
         return Written::Refused(Refusal::ReservedBits);
     }
-    let mut rest = [0; 11];
+    let mut rest = [0; DJ_REST];
     rest[0] = timeout;
     write_at(
         dj_head(Device(report::RECEIVER), SWITCH, bits),
         &rest,
         buffer,
-        place,
+        offset,
     )
 }
 
 // Writes the command that asks for the paired devices: refusal 10.
-pub fn get_paired_frame(buffer: &mut [u8], place: usize) -> Written
-    ensures { λ r. ⌜ ended r (now (buffer .exit)) ≡ getPairedRule place (now (buffer .entry)) ⌝ }
+pub fn get_paired_frame(buffer: &mut [u8], offset: usize) -> Written
+    ensures outcome { λ r. ⌜ writtenOutcome r (now (buffer .exit)) ≡ getPairedRule offset (now (buffer .entry)) ⌝ }
 {
-    let rest = [0; 11];
+    let rest = [0; DJ_REST];
     write_at(
         dj_head(Device(report::RECEIVER), GET_PAIRED, 0),
         &rest,
         buffer,
-        place,
+        offset,
     )
 }
 
 // Writes the keyboard LEDs of a device: refusals 5 and 10.
-pub fn led_frame(device: Device, leds: u8, buffer: &mut [u8], place: usize) -> Written
-    ensures { λ r. ⌜ ended r (now (buffer .exit)) ≡ ledRule (device .0) leds place (now (buffer .entry)) ⌝ }
+pub fn led_frame(device: Device, leds: u8, buffer: &mut [u8], offset: usize) -> Written
+    ensures outcome { λ r. ⌜ writtenOutcome r (now (buffer .exit)) ≡ ledRule (device .0) leds offset (now (buffer .entry)) ⌝ }
 {
     if !report::is_device(device) {
         return Written::Refused(Refusal::NoSuchPort);
     }
-    let rest = [0; 11];
-    write_at(dj_head(device, report::DJ_LEDS, leds), &rest, buffer, place)
+    let rest = [0; DJ_REST];
+    write_at(
+        dj_head(device, report::DJ_LEDS, leds),
+        &rest,
+        buffer,
+        offset,
+    )
 }

@@ -1,3 +1,3 @@
-pub mod Learning
-pub mod Taking
-pub mod TakingLaws
+pub mod HidppRecords
+pub mod HidppTaking
+pub mod HidppTakingLaws

@@ -1,14 +1,17 @@
 // Taking a HID++ report at the port that it names.
 ghost use mathlib.Core.Path.{_≡_};
-ghost use Prim.Native.Nat.{_+_, _*_};
-ghost use Rattle.port.specs.Answers.{resultOf, stray, plain};
-ghost use Rattle.hidpp.specs.Learning.{featurePlace, holds, isPing, isGetFeature, indexFrom, featureFound, batteryFrom, isBatteryReply, replied, isVersion1, errorRead, isEvent0, batteryEvent, wirelessEvent, eventSeen};
-ghost use Rattle.hidpp.specs.Taking.{aboutOf, carried, unchanged, isError, errorFits, errorKind, errorRule, replyRule, isMajor1, unaskedRule, takeHidpp};
+ghost use Rattle.report.specs.ReportContracts.{hidppOf};
+ghost use Rattle.port.specs.Records.{slotOf};
+ghost use Rattle.port.specs.Answers.{stray, plain};
+ghost use Rattle.port.specs.PortContracts.{aboutOf, kindNumber, resultOf};
+ghost use Rattle.hidpp.specs.HidppRecords.{holds, isPing, isGetFeature, indexFrom, withFoundFeature, withBatteryFrom, isBatteryReply, afterReply, isVersion1, afterError, isEvent0, afterBatteryEvent, afterWirelessEvent, afterEvent};
+ghost use Rattle.hidpp.specs.HidppTaking.{parameter, messageOf, about, carried, unchanged, isError, errorFits, kindOf, errorRule, replyRule, isMajor1, featureRule, unaskedRule, takeHidpp};
 use port::Battery;
+use port::FirstParameters;
 use port::Port;
 use port::Request;
-use port::Three;
 use port::Version;
+use port::answer;
 use port::answer::About;
 use port::answer::ErrorKind;
 use port::answer::PortTaken;
@@ -16,55 +19,83 @@ use port::answer::Taken;
 use port::waiting;
 use report::Device;
 use report::FeatureIndex;
+use report::HidppReport;
 
 // What the rules look at in a HID++ report.
 pub struct Message {
     pub device: Device,
     pub byte2: FeatureIndex,
     pub byte3: u8,
-    // How many parameters follow byte 3: 3 or 16.
+    // The number of parameters: 3 or 16.
     pub length: u8,
-    pub first: Three,
+    pub first: FirstParameters,
 }
-
-const ERROR_1: u8 = 0x8f;
-
-const ERROR_2: u8 = 0xff;
 
 // The code of an error to a ping that a device of HID++ 1.0 sends.
 const INVALID_SUB_ID: u8 = 1;
 
 const PING: u8 = 1;
 
-const BATTERY_PLACE: usize = 3;
+// Known features by their ids.
+const FEATURE_SET: u16 = 0x0001;
 
-const WIRELESS_PLACE: usize = 4;
+const DEVICE_INFORMATION: u16 = 0x0003;
+
+const DEVICE_NAME: u16 = 0x0005;
+
+const BATTERY_STATUS: u16 = 0x1000;
+
+const WIRELESS_STATUS: u16 = 0x1d4b;
 
 const MAX_INDEX: u8 = 63;
 
 const MAX_LEVEL: u8 = 100;
 
-// The place of a known feature in a port's list, or port::FEATURES.
-fn feature_place(high: u8, low: u8) -> usize
-    ensures { λ r. ⌜ r ≡ featurePlace (high * 256 + low) ⌝ }
+// The parameter with this number, counted from 0.
+fn parameter(bytes: &[u8], i: u8) -> u8
+    ensures { λ r. ⌜ r ≡ parameter (now (bytes .entry)) i ⌝ }
 {
-    let id = (high as u16) * 256 + (low as u16);
-    match id {
-        0x0001 => 0,
-        0x0003 => 1,
-        0x0005 => 2,
-        0x1000 => 3,
-        0x1d4b => 4,
+    report::byte_at(bytes, report::HIDPP_START as usize + i as usize)
+}
+
+fn message_of(h: HidppReport, bytes: &[u8]) -> Message
+    ensures { λ r. ⌜ r ≡ messageOf (hidppOf h) (now (bytes .entry)) ⌝ }
+{
+    let device = h.device;
+    let byte2 = h.byte2;
+    Message {
+        device,
+        byte2,
+        byte3: h.byte3,
+        length: h.length,
+        first: FirstParameters(
+            parameter(bytes, 0),
+            parameter(bytes, 1),
+            parameter(bytes, 2),
+        ),
+    }
+}
+
+// The slot of a known feature, or port::FEATURES.
+fn slot_of(feature: u16) -> usize
+    ensures { λ r. ⌜ r ≡ slotOf feature ⌝ }
+{
+    match feature {
+        FEATURE_SET => 0,
+        DEVICE_INFORMATION => 1,
+        DEVICE_NAME => 2,
+        BATTERY_STATUS => 3,
+        WIRELESS_STATUS => 4,
         _ => port::FEATURES,
     }
 }
 
-// Whether the port holds this index for the known feature at this place.
-fn is_held(port: Port, place: usize, index: FeatureIndex) -> bool
-    ensures { λ r. ⌜ r ≡ holds port place (index .0) ⌝ }
+// Whether the port holds this index for a known feature.
+fn is_held(port: Port, feature: u16, index: FeatureIndex) -> bool
+    ensures { λ r. ⌜ r ≡ holds port feature (index .0) ⌝ }
 {
     let features = port.features;
-    let held = port::feature_at(features, place);
+    let held = port::feature_at(features, slot_of(feature));
     if held.0 == 0 {
         return false;
     }
@@ -89,7 +120,7 @@ fn is_get_feature(byte2: FeatureIndex, byte3: u8) -> bool
     false
 }
 
-// An index above the largest stands for a feature that was not found.
+// An index above the largest says that the feature was not found.
 fn as_index(index: u8) -> FeatureIndex
     ensures { λ r. ⌜ r ≡ indexFrom index ⌝ }
 {
@@ -99,17 +130,20 @@ fn as_index(index: u8) -> FeatureIndex
     FeatureIndex(0)
 }
 
-fn learn_feature(port: Port, request: Request, index: u8) -> Port
-    ensures { λ r. ⌜ r ≡ featureFound port request index ⌝ }
+fn with_found_feature(port: Port, request: Request, index: u8) -> Port
+    ensures { λ r. ⌜ r ≡ withFoundFeature port request index ⌝ }
 {
-    let place = feature_place(request.first.0, request.first.1);
-    let features = port.features;
-    let next = port::with_feature(features, place, as_index(index));
-    port::with_features(port, next)
+    let slot = slot_of(report::join2(request.first.1, request.first.0));
+    if slot < port::FEATURES {
+        let features = port.features;
+        let next = port::with_feature(features, slot, as_index(index));
+        return port::with_features(port, next);
+    }
+    port
 }
 
-fn learn_battery(port: Port, first: Three) -> Port
-    ensures { λ r. ⌜ r ≡ batteryFrom port first ⌝ }
+fn with_battery_from(port: Port, first: FirstParameters) -> Port
+    ensures { λ r. ⌜ r ≡ withBatteryFrom port first ⌝ }
 {
     if first.0 <= MAX_LEVEL {
         if first.1 <= MAX_LEVEL {
@@ -119,19 +153,19 @@ fn learn_battery(port: Port, first: Three) -> Port
     port
 }
 
-// What the records learn from a reply to this request.
-fn learn_reply(port: Port, m: Message, request: Request) -> Port
-    ensures { λ r. ⌜ r ≡ replied port m request ⌝ }
+// The port after a reply to this request.
+fn after_reply(port: Port, m: Message, request: Request) -> Port
+    ensures { λ r. ⌜ r ≡ afterReply port m request ⌝ }
 {
     if is_ping(m.byte2, m.byte3) {
         return port::with_version(port, Version::Known(m.first.0, m.first.1));
     }
     if is_get_feature(m.byte2, m.byte3) {
-        return learn_feature(port, request, m.first.0);
+        return with_found_feature(port, request, m.first.0);
     }
     if is_battery_reply(port, m) {
         let first = m.first;
-        return learn_battery(port, first);
+        return with_battery_from(port, first);
     }
     port
 }
@@ -139,7 +173,7 @@ fn learn_reply(port: Port, m: Message, request: Request) -> Port
 fn is_battery_reply(port: Port, m: Message) -> bool
     ensures { λ r. ⌜ r ≡ isBatteryReply port m ⌝ }
 {
-    if is_held(port, BATTERY_PLACE, m.byte2) {
+    if is_held(port, BATTERY_STATUS, m.byte2) {
         return m.byte3 / 16 == 0;
     }
     false
@@ -149,7 +183,7 @@ fn is_battery_reply(port: Port, m: Message) -> bool
 fn is_version_1(kind: u8, named2: FeatureIndex, named3: u8, code: u8) -> bool
     ensures { λ r. ⌜ r ≡ isVersion1 kind (named2 .0) named3 code ⌝ }
 {
-    if kind != ERROR_1 {
+    if kind != answer::ERROR_1 {
         return false;
     }
     if code != INVALID_SUB_ID {
@@ -158,8 +192,8 @@ fn is_version_1(kind: u8, named2: FeatureIndex, named3: u8, code: u8) -> bool
     is_ping(named2, named3)
 }
 
-fn learn_error(port: Port, kind: u8, named2: FeatureIndex, named3: u8, code: u8) -> Port
-    ensures { λ r. ⌜ r ≡ errorRead port kind (named2 .0) named3 code ⌝ }
+fn after_error(port: Port, kind: u8, named2: FeatureIndex, named3: u8, code: u8) -> Port
+    ensures { λ r. ⌜ r ≡ afterError port kind (named2 .0) named3 code ⌝ }
 {
     if is_version_1(kind, named2, named3, code) {
         return port::with_version(port, Version::Known(1, 0));
@@ -167,43 +201,43 @@ fn learn_error(port: Port, kind: u8, named2: FeatureIndex, named3: u8, code: u8)
     port
 }
 
-// Whether the message is event 0 of the feature at this place.
-fn is_event_0(port: Port, place: usize, m: Message) -> bool
-    ensures { λ r. ⌜ r ≡ isEvent0 port place m ⌝ }
+// Whether the message is event 0 of a known feature.
+fn is_event_0(port: Port, feature: u16, m: Message) -> bool
+    ensures { λ r. ⌜ r ≡ isEvent0 port feature m ⌝ }
 {
-    if is_held(port, place, m.byte2) {
+    if is_held(port, feature, m.byte2) {
         return m.byte3 == 0;
     }
     false
 }
 
-fn learn_battery_event(port: Port, m: Message) -> Port
-    ensures { λ r. ⌜ r ≡ batteryEvent port m ⌝ }
+fn after_battery_event(port: Port, m: Message) -> Port
+    ensures { λ r. ⌜ r ≡ afterBatteryEvent port m ⌝ }
 {
-    if is_event_0(port, BATTERY_PLACE, m) {
+    if is_event_0(port, BATTERY_STATUS, m) {
         let first = m.first;
-        return learn_battery(port, first);
+        return with_battery_from(port, first);
     }
     port
 }
 
-fn learn_wireless_event(port: Port, m: Message) -> Port
-    ensures { λ r. ⌜ r ≡ wirelessEvent port m ⌝ }
+fn after_wireless_event(port: Port, m: Message) -> Port
+    ensures { λ r. ⌜ r ≡ afterWirelessEvent port m ⌝ }
 {
-    if is_event_0(port, WIRELESS_PLACE, m) {
+    if is_event_0(port, WIRELESS_STATUS, m) {
         return port::with_link(port, true);
     }
     port
 }
 
-fn learn_event(port: Port, m: Message) -> Port
-    ensures { λ r. ⌜ r ≡ eventSeen port m ⌝ }
+fn after_event(port: Port, m: Message) -> Port
+    ensures { λ r. ⌜ r ≡ afterEvent port m ⌝ }
 {
-    learn_wireless_event(learn_battery_event(port, m), m)
+    after_wireless_event(after_battery_event(port, m), m)
 }
 
 fn about(m: Message, byte2: FeatureIndex, byte3: u8) -> About
-    ensures { λ r. ⌜ r ≡ aboutOf m (byte2 .0) byte3 ⌝ }
+    ensures { λ r. ⌜ aboutOf r ≡ about m (byte2 .0) byte3 ⌝ }
 {
     let device = m.device;
     About {
@@ -218,26 +252,26 @@ fn about(m: Message, byte2: FeatureIndex, byte3: u8) -> About
 fn is_error(byte2: FeatureIndex) -> bool
     ensures { λ r. ⌜ r ≡ isError (byte2 .0) ⌝ }
 {
-    if byte2.0 == ERROR_1 {
+    if byte2.0 == answer::ERROR_1 {
         return true;
     }
-    byte2.0 == ERROR_2
+    byte2.0 == answer::ERROR_2
 }
 
 // An error of HID++ 2.0 is about a feature.
 fn error_fits(m: Message) -> bool
     ensures { λ r. ⌜ r ≡ errorFits m ⌝ }
 {
-    if m.byte2.0 == ERROR_1 {
+    if m.byte2.0 == answer::ERROR_1 {
         return true;
     }
     m.byte3 < report::SUB_IDS
 }
 
 fn error_kind(byte2: FeatureIndex) -> ErrorKind
-    ensures { λ r. ⌜ r ≡ errorKind (byte2 .0) ⌝ }
+    ensures { λ r. ⌜ kindNumber r ≡ kindOf (byte2 .0) ⌝ }
 {
-    if byte2.0 == ERROR_1 {
+    if byte2.0 == answer::ERROR_1 {
         return ErrorKind::Hidpp1;
     }
     ErrorKind::Hidpp2
@@ -261,7 +295,7 @@ fn plain(port: Port, m: Message) -> PortTaken
     }
 }
 
-// An error: bytes 2 and 3 of the request that it names stand in byte 3 and the first parameter, its code in the second.
+// An error: bytes 2 and 3 of the request that it names are byte 3 and the first parameter, its code is the second.
 fn take_error(port: Port, m: Message) -> PortTaken
     ensures { λ r. ⌜ resultOf r ≡ errorRule port m ⌝ }
 {
@@ -281,7 +315,7 @@ fn take_error(port: Port, m: Message) -> PortTaken
                 code,
                 kind: error_kind(m.byte2),
             },
-            port: learn_error(ended, m.byte2.0, named2, named3, code),
+            port: after_error(ended, m.byte2.0, named2, named3, code),
         };
     }
     stray(port, m)
@@ -291,11 +325,11 @@ fn take_reply(port: Port, m: Message, place: usize) -> PortTaken
     ensures { λ r. ⌜ resultOf r ≡ replyRule port m place ⌝ }
 {
     let places = port.places;
-    let request = port::request_at(places, place);
+    let request = port::request_in(places, place);
     let ended = waiting::end_at(port, place);
     PortTaken {
         answer: Taken::Reply(about(m, m.byte2, m.byte3)),
-        port: learn_reply(ended, m, request),
+        port: after_reply(ended, m, request),
     }
 }
 
@@ -308,6 +342,23 @@ fn is_major_1(version: Version) -> bool
     }
 }
 
+// A report of a feature that no request waits for.
+fn take_feature(port: Port, m: Message) -> PortTaken
+    ensures { λ r. ⌜ resultOf r ≡ featureRule port m ⌝ }
+{
+    let version = port.version;
+    if is_major_1(version) {
+        return plain(port, m);
+    }
+    if m.byte3 % 16 == 0 {
+        return PortTaken {
+            answer: Taken::Event(about(m, m.byte2, m.byte3)),
+            port: after_event(port, m),
+        };
+    }
+    stray(port, m)
+}
+
 // A report that no request waits for.
 fn take_unasked(port: Port, m: Message) -> PortTaken
     ensures { λ r. ⌜ resultOf r ≡ unaskedRule port m ⌝ }
@@ -318,21 +369,10 @@ fn take_unasked(port: Port, m: Message) -> PortTaken
     if report::SUB_IDS <= m.byte2.0 {
         return plain(port, m);
     }
-    let version = port.version;
-    if is_major_1(version) {
-        return plain(port, m);
-    }
-    if m.byte3 % 16 == 0 {
-        return PortTaken {
-            answer: Taken::Event(about(m, m.byte2, m.byte3)),
-            port: learn_event(port, m),
-        };
-    }
-    stray(port, m)
+    take_feature(port, m)
 }
 
-// Takes the report at its port.
-pub fn take_at(port: Port, m: Message) -> PortTaken
+fn take_message(port: Port, m: Message) -> PortTaken
     ensures { λ r. ⌜ resultOf r ≡ takeHidpp port m ⌝ }
 {
     if is_error(m.byte2) {
@@ -344,4 +384,11 @@ pub fn take_at(port: Port, m: Message) -> PortTaken
         return take_reply(port, m, place);
     }
     take_unasked(port, m)
+}
+
+// Takes the report at its port.
+pub fn take_at(port: Port, h: HidppReport, bytes: &[u8]) -> PortTaken
+    ensures result { λ r. ⌜ resultOf r ≡ takeHidpp port (messageOf (hidppOf h) (now (bytes .entry))) ⌝ }
+{
+    take_message(port, message_of(h, bytes))
 }

@@ -1,2 +1,3 @@
 pub mod Movement
+pub mod MouseContracts
 pub mod MovementLaws

@@ -5,10 +5,8 @@ use mathlib.Core.Bool.{cond, not}
 use lib.ListN.{length}
 use lib.Dec.{ltb, eqb}
 use lib.IntN.{ℤ, pos, _-ℤ_}
-use Rattle.report.specs.Refusals.{wrongLength, numberOf}
-use Rattle.report.specs.Sizes.{byte}
-use Rattle.mouse.specs.declared.Moved.{Moved}
-use Rattle.mouse.specs.declared.Moved.the-variants.{Refused, By}
+use Rattle.report.specs.Refusals.{wrongLength}
+use Rattle.report.specs.Sizes.{byte, joined2}
 
 -- what a payload gives: the refusal's number, or the five fields
 pub data Movement : Type 0 where
@@ -24,13 +22,8 @@ unfoldable pub mouseRule : List ℕ → Movement
 mouseRule payload =
     cond (not (eqb (length payload) 7)) (refused wrongLength)
     (moved
-    (byte payload 0 + 256 * byte payload 1)
-    (signed 12 (byte payload 2 + 256 * (byte payload 3 % 16)))
+    (joined2 (byte payload 0) (byte payload 1))
+    (signed 12 (joined2 (byte payload 2) (byte payload 3 % 16)))
     (signed 12 (byte payload 3 / 16 + 16 * byte payload 4))
     (signed 8 (byte payload 5))
     (signed 8 (byte payload 6)))
-
--- the program's answer, in these terms
-abbrev pub meaning : Moved → Movement
-meaning (Refused r) = refused (numberOf r)
-meaning (By m) = moved (m .buttons) (m .x) (m .y) (m .wheel) (m .pan)

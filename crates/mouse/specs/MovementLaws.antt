@@ -22,7 +22,7 @@ pub upper-half : (width n : ℕ) → 2 ^ (width - 1) ≤ n → signed width n �
 unfolding signed
 upper-half width n h = simp (le-ltb _ _ h)
 
--- equal, but for width 0, which has one number
+-- equal, except at width 0, which has one number
 halves : (width : ℕ) → 2 ^ width ≤ 2 ^ (width - 1) + 2 ^ (width - 1)
 halves zero = lit≤ tt
 halves (suc k) = let e : suc k - 1 ≡ k = omega arith in rw e (omega arith)

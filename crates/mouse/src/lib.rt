@@ -2,7 +2,9 @@
 use report::Refusal;
 ghost use mathlib.Core.Path.{_≡_};
 ghost use Prim.Native.Nat.{_+_, _*_, _/_, _%_, _<_};
-ghost use Rattle.mouse.specs.Movement.{signed, mouseRule, meaning};
+ghost use Rattle.report.specs.Sizes.{joined2};
+ghost use Rattle.mouse.specs.Movement.{signed, mouseRule};
+ghost use Rattle.mouse.specs.MouseContracts.{movedOf};
 
 const PAYLOAD_LENGTH: usize = 7;
 
@@ -18,13 +20,6 @@ pub struct Motion {
 pub enum Moved {
     Refused(Refusal),
     By(Motion),
-}
-
-// Two bytes, low byte first.
-fn joined(low: u8, high: u8) -> u16
-    ensures { λ r. ⌜ r ≡ low + 256 * high ⌝ }
-{
-    low as u16 + 256 * (high as u16)
 }
 
 // Twelve bits of two's complement.
@@ -50,9 +45,9 @@ fn signed8(bits: u8) -> i8
 
 // A byte, then the low nibble of the next.
 fn x_of(low: u8, nibbles: u8) -> i16
-    ensures { λ r. ⌜ r ≡ signed 12 (low + 256 * (nibbles % 16)) ⌝ }
+    ensures { λ r. ⌜ r ≡ signed 12 (joined2 low (nibbles % 16)) ⌝ }
 {
-    signed12(joined(low, nibbles % 16))
+    signed12(report::join2(low, nibbles % 16))
 }
 
 // The high nibble of a byte, then the next byte.
@@ -64,13 +59,13 @@ fn y_of(nibbles: u8, high: u8) -> i16
 
 // Reads a mouse payload: refusal 3 where it is not 7 bytes, or the movement.
 pub fn movement(payload: &[u8]) -> Moved
-    ensures { λ r. ⌜ meaning r ≡ mouseRule (now (payload .entry)) ⌝ }
+    ensures movement { λ r. ⌜ movedOf r ≡ mouseRule (now (payload .entry)) ⌝ }
 {
     if payload.len() != PAYLOAD_LENGTH {
         return Moved::Refused(Refusal::WrongLength);
     }
     Moved::By(Motion {
-        buttons: joined(payload[0], payload[1]),
+        buttons: report::join2(payload[0], payload[1]),
         x: x_of(payload[2], payload[3]),
         y: y_of(payload[3], payload[4]),
         wheel: signed8(payload[5]),

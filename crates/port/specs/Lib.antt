@@ -1,10 +1,11 @@
 pub mod Records
 pub mod Places
-pub mod PlacesLaws
 pub mod Ticks
+pub mod Waiting
+pub mod Answers
+pub mod PortContracts
+pub mod PlacesLaws
 pub mod MapLaws
 pub mod SumLaws
 pub mod TicksLaws
-pub mod Answers
-pub mod Waiting
 pub mod WaitingLaws

@@ -16,12 +16,6 @@ module _ {A : Type 0} (g : A → A) where
   mapFirst (suc i) [] = []
   mapFirst (suc i) (x ∷ xs) = g x ∷ mapFirst i xs
 
-  pub length-mapFirst : (i : ℕ) (xs : List A) → length (mapFirst i xs) ≡ length xs
-  unfolding mapFirst
-  length-mapFirst zero xs = refl
-  length-mapFirst (suc i) [] = refl
-  length-mapFirst (suc i) (x ∷ xs) = ap suc (length-mapFirst i xs)
-
   stored : (i : ℕ) (xs : List A) (d : A) → i < length xs → set (mapFirst i xs) i (g (getD xs i d)) ≡ mapFirst (suc i) xs
   unfolding mapFirst
   stored i [] d h = absurd (not-suc-le-zero h)
@@ -43,9 +37,6 @@ module _ {A : Type 0} (g : A → A) where
   pub map-begun : (xs : List A) → Mapped xs xs 0
   unfolding mapFirst
   map-begun xs = record { within = omega arith; so = refl }
-
-  pub map-length : {xs ys : List A} {i : ℕ} → Mapped xs ys i → length ys ≡ length xs
-  map-length {xs} {ys} {i} m = ap length (m .so) ∙ length-mapFirst i xs
 
   pub map-more : {xs ys : List A} {i : ℕ} (d v : A) → Mapped xs ys i → i < length xs → v ≡ g (getD xs i d) → Mapped xs (set ys i v) (i + 1)
   map-more {xs} {ys} {i} d v m h e =

@@ -26,6 +26,6 @@ sumOver f (r ∷ rs) = f r + sumOver f rs
 abbrev pub oneIfWaiting : Request → ℕ
 oneIfWaiting r = cond (isEmpty r) 0 1
 
--- how many requests wait
+-- the number of requests that wait
 abbrev pub countWaiting : List Request → ℕ
 countWaiting places = sumOver oneIfWaiting places

@@ -1,8 +1,9 @@
 -- Document 01, "Ports and their records": what is fresh.
-use Prim.Native.Nat.{ℕ}
-use mathlib.Core.Bool.{Bool, false}
-use mathlib.Core.List.{List}
+use Prim.Native.Nat.{ℕ, suc}
+use mathlib.Core.Bool.{Bool, true, false, cond}
+use mathlib.Core.List.{List, [], _∷_}
 use lib.ListN.{getD, replicate}
+use lib.Dec.{eqb}
 use Rattle.port.specs.declared.Port.{Port}
 use Rattle.port.specs.declared.Request.{Request}
 use Rattle.port.specs.declared.Version.{Version}
@@ -15,9 +16,36 @@ use Rattle.report.specs.declared.FeatureIndex.{FeatureIndex}
 abbrev pub placeCount : ℕ
 placeCount = 4
 
--- known features
+-- known features by their ids
+abbrev pub featureSet : ℕ
+featureSet = 0x0001
+
+abbrev pub deviceInformation : ℕ
+deviceInformation = 0x0003
+
+abbrev pub deviceName : ℕ
+deviceName = 0x0005
+
+abbrev pub batteryStatus : ℕ
+batteryStatus = 0x1000
+
+abbrev pub wirelessStatus : ℕ
+wirelessStatus = 0x1D4B
+
+abbrev pub knownFeatures : List ℕ
+knownFeatures = featureSet ∷ deviceInformation ∷ deviceName ∷ batteryStatus ∷ wirelessStatus ∷ []
+
 abbrev pub featureCount : ℕ
 featureCount = 5
+
+-- the position of a feature in a list; the length of the list where it has none
+abbrev pub slotIn : List ℕ → ℕ → ℕ
+slotIn [] feature = 0
+slotIn (x ∷ xs) feature = cond (eqb feature x) 0 (suc (slotIn xs feature))
+
+-- the slot of a known feature
+abbrev pub slotOf : ℕ → ℕ
+slotOf feature = slotIn knownFeatures feature
 
 -- an emptied place is as fresh
 unfoldable pub emptyPlace : Request
@@ -38,13 +66,17 @@ freshPort =
       places = replicate placeCount emptyPlace;
     }
 
--- the request in a place
-abbrev pub requestAt : List Request → ℕ → Request
-requestAt places at = getD places at emptyPlace
+-- what becomes of a port whose device is gone, or is another
+unfoldable pub madeFresh : Port → Port
+madeFresh p = freshPort
 
--- the index held for the known feature at this place of the list
+-- the request in a place
+abbrev pub requestIn : List Request → ℕ → Request
+requestIn places place = getD places place emptyPlace
+
+-- the index held for the known feature of a slot
 abbrev pub featureAt : List FeatureIndex → ℕ → ℕ
-featureAt features at = getD features at (record { 0 = 0 }) .0
+featureAt features slot = getD features slot (record { 0 = 0 }) .0
 
 -- a port with one thing of it changed
 unfoldable pub withVersion : Port → Version → Port
@@ -64,3 +96,7 @@ withLink p x = record { paired = p .paired; wpid = p .wpid; reports = p .reports
 
 unfoldable pub withReports : Port → ℕ → Port
 withReports p x = record { paired = p .paired; wpid = p .wpid; reports = x; up = p .up; version = p .version; features = p .features; battery = p .battery; places = p .places }
+
+-- paired with this WPID and bitfield
+unfoldable pub withPairing : Port → ℕ → ℕ → Port
+withPairing p wpid reports = record { paired = true; wpid = wpid; reports = reports; up = p .up; version = p .version; features = p .features; battery = p .battery; places = p .places }

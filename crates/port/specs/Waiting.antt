@@ -3,17 +3,12 @@ use Prim.Native.Nat.{ℕ}
 use mathlib.Core.Bool.{Bool, cond}
 use mathlib.Core.List.{List}
 use lib.ListN.{set}
-use lib.Dec.{ltb}
-use Rattle.report.specs.Refusals.{numberOf, alreadyWaiting, placesFull, notWaiting}
+use lib.Dec.{leb, ltb}
+use Rattle.report.specs.Refusals.{alreadyWaiting, placesFull, notWaiting}
 use Rattle.port.specs.declared.Port.{Port}
 use Rattle.port.specs.declared.Request.{Request}
-use Rattle.port.specs.declared.waiting.Admission.{Admission}
-use Rattle.port.specs.declared.waiting.Admission.the-variants.{Refused, At}
-use Rattle.port.specs.declared.waiting.Cancelled.{Cancelled}
-use Rattle.port.specs.declared.waiting.Cancelled.the-variants as cancelled
-use Rattle.port.specs.declared.waiting.PortCancelled.{PortCancelled}
 use Rattle.port.specs.Records.{placeCount, emptyPlace, withPlaces}
-use Rattle.port.specs.Places.{matches, firstAt, isEmpty}
+use Rattle.port.specs.Places.{matches, firstAt, isEmpty, countWaiting}
 
 -- the place where a request with these bytes 2 and 3 waits; placeCount where none does
 abbrev pub waitingAt : Port → ℕ → ℕ → ℕ
@@ -26,21 +21,20 @@ isFound place = ltb place placeCount
 unfoldable pub endedAt : Port → ℕ → Port
 endedAt p place = withPlaces p (set (p .places) place emptyPlace)
 
--- where a request may wait: the lowest empty place, or a refusal
+-- as many requests wait as the port has places
+abbrev pub isFull : List Request → Bool
+isFull places = leb placeCount (countWaiting places)
+
+-- where a request may wait, or a refusal
 pub data Room : Type 0 where
   refused : ℕ → Room
   at : ℕ → Room
 
--- 11, 12
+-- 11, 12, or the lowest empty place
 unfoldable pub roomFor : List Request → ℕ → ℕ → Room
 roomFor places byte2 byte3 =
     cond (isFound (firstAt (matches byte2 byte3) places)) (refused alreadyWaiting)
-    (cond (isFound (firstAt isEmpty places)) (at (firstAt isEmpty places)) (refused placesFull))
-
--- the program's answer, in these terms
-abbrev pub roomOf : Admission → Room
-roomOf (Refused r) = refused (numberOf r)
-roomOf (At place) = at place
+    (cond (isFull places) (refused placesFull) (at (firstAt isEmpty places)))
 
 -- what cancel answers
 pub data CancelAnswer : Type 0 where
@@ -57,10 +51,3 @@ cancelAt p byte2 byte3 =
     cond (isFound (waitingAt p byte2 byte3))
     (record { answer = done; port = endedAt p (waitingAt p byte2 byte3) })
     (record { answer = CancelAnswer.refused notWaiting; port = p })
-
-abbrev pub cancelOf : Cancelled → CancelAnswer
-cancelOf (cancelled.Refused r) = CancelAnswer.refused (numberOf r)
-cancelOf cancelled.Done = done
-
-abbrev pub cancelResult : PortCancelled → CancelResult
-cancelResult c = record { answer = cancelOf (c .answer); port = c .port }

@@ -1,4 +1,6 @@
 // What taking a report answers.
+ghost use mathlib.Core.Path.{_≡_};
+ghost use Rattle.port.specs.PortContracts.{kindNumber};
 use crate::Port;
 use report::Device;
 use report::FeatureIndex;
@@ -13,10 +15,27 @@ pub struct About {
     pub length: u8,
 }
 
-// The two kinds of error: 0x8F of HID++ 1.0, and 0xFF of HID++ 2.0.
+// Byte 2 of an error of HID++ 1.0, and of 2.0.
+pub const ERROR_1: u8 = 0x8f;
+
+pub const ERROR_2: u8 = 0xff;
+
+// The two kinds of error: of HID++ 1.0, and of HID++ 2.0.
 pub enum ErrorKind {
     Hidpp1,
     Hidpp2,
+}
+
+impl ErrorKind {
+    // Byte 2 of such an error.
+    pub fn number(self) -> u8
+        ensures number { λ r. ⌜ r ≡ kindNumber self ⌝ }
+    {
+        match self {
+            ErrorKind::Hidpp1 => ERROR_1,
+            ErrorKind::Hidpp2 => ERROR_2,
+        }
+    }
 }
 
 pub enum Notice {

@@ -1,8 +1,8 @@
 // What one port holds, and its places for waiting requests.
 ghost use mathlib.Core.Path.{_≡_};
-ghost use Prim.Native.Nat.{_≤_};
+ghost use Prim.Native.Nat.{_-_, _≤_};
 ghost use lib.ListN.{set};
-ghost use Rattle.port.specs.Records.{freshPort, emptyPlace, requestAt, featureAt, withVersion, withBattery, withFeatures, withPlaces, withLink};
+ghost use Rattle.port.specs.Records.{freshPort, madeFresh, emptyPlace, requestIn, featureAt, withVersion, withBattery, withFeatures, withPlaces, withLink};
 ghost use Rattle.port.specs.Places.{matches, firstAt, isEmpty, oneIfWaiting, countWaiting};
 ghost use Rattle.port.specs.Ticks.{afterTick, oneIfEnding, tickRule};
 
@@ -17,17 +17,17 @@ pub const PLACES: usize = 4;
 // Known features.
 pub const FEATURES: usize = 5;
 
-// Ports of a station: devices 1 to 6, and the receiver.
-pub const PORTS: usize = 7;
+// Ports of a station: the devices, and the receiver.
+pub const PORTS: usize = report::DEVICES as usize + 1;
 
 // The first three parameters of a request or of a report.
-pub struct Three(pub u8, pub u8, pub u8);
+pub struct FirstParameters(pub u8, pub u8, pub u8);
 
 // One pending request. Document 01: a place. It is empty where no ticks are left.
 pub struct Request {
     pub byte2: FeatureIndex,
     pub byte3: u8,
-    pub first: Three,
+    pub first: FirstParameters,
     pub ticks: u8,
 }
 
@@ -51,25 +51,25 @@ pub struct Port {
     pub reports: u32,
     pub up: bool,
     pub version: Version,
-    // The index found for each known feature, 0 where not found.
+    // By slot, the index found for each known feature, 0 where not found.
     pub features: [FeatureIndex; FEATURES],
     pub battery: Battery,
     pub places: [Request; PLACES],
 }
 
 pub fn empty_place() -> Request
-    ensures { λ r. ⌜ r ≡ emptyPlace ⌝ }
+    ensures empty { λ r. ⌜ r ≡ emptyPlace ⌝ }
 {
     Request {
         byte2: FeatureIndex(0),
         byte3: 0,
-        first: Three(0, 0, 0),
+        first: FirstParameters(0, 0, 0),
         ticks: 0,
     }
 }
 
 pub fn fresh() -> Port
-    ensures { λ r. ⌜ r ≡ freshPort ⌝ }
+    ensures fresh { λ r. ⌜ r ≡ freshPort ⌝ }
 {
     let none = FeatureIndex(0);
     let empty = empty_place();
@@ -83,6 +83,13 @@ pub fn fresh() -> Port
         battery: Battery::Unknown,
         places: [empty; PLACES],
     }
+}
+
+// What becomes of a port whose device is gone, or is another: all is as fresh.
+pub fn made_fresh(port: Port) -> Port
+    ensures fresh { λ r. ⌜ r ≡ madeFresh port ⌝ }
+{
+    fresh()
 }
 
 // Whether a request with these bytes 2 and 3 waits in the place.
@@ -100,7 +107,7 @@ fn is_match(request: Request, byte2: FeatureIndex, byte3: u8) -> bool
 
 // The lowest place where a request with these bytes 2 and 3 waits, or PLACES.
 pub fn first_match(places: [Request; PLACES], byte2: FeatureIndex, byte3: u8) -> usize
-    ensures { λ r. ⌜ r ≡ firstAt (matches (byte2 .0) byte3) places ⌝ }
+    ensures lowest { λ r. ⌜ r ≡ firstAt (matches (byte2 .0) byte3) places ⌝ }
 {
     let mut i = 0;
     while i < PLACES {
@@ -121,7 +128,7 @@ fn is_empty(request: Request) -> bool
 
 // The lowest empty place, or PLACES.
 pub fn first_empty(places: [Request; PLACES]) -> usize
-    ensures { λ r. ⌜ r ≡ firstAt isEmpty places ⌝ }
+    ensures lowest { λ r. ⌜ r ≡ firstAt isEmpty places ⌝ }
 {
     let mut i = 0;
     while i < PLACES {
@@ -134,9 +141,9 @@ pub fn first_empty(places: [Request; PLACES]) -> usize
     PLACES
 }
 
-// How many requests wait.
+// The number of requests that wait.
 pub fn count_waiting(places: [Request; PLACES]) -> u8
-    ensures { λ r. ⌜ r ≡ countWaiting places ⌝ }
+    ensures count { λ r. ⌜ r ≡ countWaiting places ⌝ }
 {
     let mut count: u8 = 0;
     let mut i = 0;
@@ -158,22 +165,31 @@ fn one_if_waiting(request: Request) -> u8
     1
 }
 
-// The places after one tick, and how many requests it ended.
+// The places after one tick, and the number of requests that it ended.
 pub struct Ticked {
     pub places: [Request; PLACES],
     pub ended: u8,
 }
 
-// One place after one tick: the count lowered, and the place emptied where it reaches 0.
+// One tick less; 0 stays 0.
+fn one_less(ticks: u8) -> u8
+    ensures { λ r. ⌜ r ≡ ticks - 1 ⌝ }
+{
+    if ticks == 0 {
+        return 0;
+    }
+    ticks - 1
+}
+
+// One place after one tick: an empty one stays, a request with one tick left ends, any other has one tick less.
 fn lowered(request: Request) -> Request
     ensures { λ r. ⌜ r ≡ afterTick request ⌝ }
 {
-    let ticks = request.ticks;
-    if ticks <= 1 {
+    if request.ticks == 1 {
         return empty_place();
     }
     let mut next = request;
-    next.ticks = ticks - 1;
+    next.ticks = one_less(request.ticks);
     next
 }
 
@@ -188,7 +204,7 @@ fn one_if_ending(request: Request) -> u8
 }
 
 pub fn tick(places: [Request; PLACES]) -> Ticked
-    ensures { λ r. ⌜ r ≡ tickRule places ⌝ }
+    ensures ticked { λ r. ⌜ r ≡ tickRule places ⌝ }
 {
     let mut next = places;
     let mut ended: u8 = 0;
@@ -206,53 +222,53 @@ pub fn tick(places: [Request; PLACES]) -> Ticked
 }
 
 // The request in a place, or an empty one past the last.
-pub fn request_at(places: [Request; PLACES], at: usize) -> Request
-    ensures { λ r. ⌜ r ≡ requestAt places at ⌝ }
+pub fn request_in(places: [Request; PLACES], place: usize) -> Request
+    ensures found { λ r. ⌜ r ≡ requestIn places place ⌝ }
 {
-    if at < PLACES {
-        return places[at];
+    if place < PLACES {
+        return places[place];
     }
     empty_place()
 }
 
 // The places with this request in one of them; past the last nothing changes.
-pub fn with_request(places: [Request; PLACES], at: usize, request: Request) -> [Request; PLACES]
-    ensures { λ r. ⌜ r ≡ set places at request ⌝ }
+pub fn with_request(places: [Request; PLACES], place: usize, request: Request) -> [Request; PLACES]
+    ensures stored { λ r. ⌜ r ≡ set places place request ⌝ }
 {
     let mut next = places;
-    if at < PLACES {
-        next[at] = request;
+    if place < PLACES {
+        next[place] = request;
     }
     next
 }
 
-// The index held for a known feature; 0 past the last.
-pub fn feature_at(features: [FeatureIndex; FEATURES], at: usize) -> FeatureIndex
-    ensures { λ r. ⌜ r .0 ≡ featureAt features at ⌝ }
+// The index held for the known feature of a slot; 0 past the last.
+pub fn feature_at(features: [FeatureIndex; FEATURES], slot: usize) -> FeatureIndex
+    ensures found { λ r. ⌜ r .0 ≡ featureAt features slot ⌝ }
 {
-    if at < FEATURES {
-        return features[at];
+    if slot < FEATURES {
+        return features[slot];
     }
     FeatureIndex(0)
 }
 
-// The features with this index for one of them; past the last nothing changes.
+// The features with this index in one slot; past the last nothing changes.
 pub fn with_feature(
     features: [FeatureIndex; FEATURES],
-    at: usize,
+    slot: usize,
     index: FeatureIndex,
 ) -> [FeatureIndex; FEATURES]
-    ensures { λ r. ⌜ r ≡ set features at index ⌝ }
+    ensures stored { λ r. ⌜ r ≡ set features slot index ⌝ }
 {
     let mut next = features;
-    if at < FEATURES {
-        next[at] = index;
+    if slot < FEATURES {
+        next[slot] = index;
     }
     next
 }
 
 pub fn with_version(port: Port, version: Version) -> Port
-    ensures { λ r. ⌜ r ≡ withVersion port version ⌝ }
+    ensures changed { λ r. ⌜ r ≡ withVersion port version ⌝ }
 {
     let features = port.features;
     let battery = port.battery;
@@ -270,7 +286,7 @@ pub fn with_version(port: Port, version: Version) -> Port
 }
 
 pub fn with_battery(port: Port, battery: Battery) -> Port
-    ensures { λ r. ⌜ r ≡ withBattery port battery ⌝ }
+    ensures changed { λ r. ⌜ r ≡ withBattery port battery ⌝ }
 {
     let version = port.version;
     let features = port.features;
@@ -288,21 +304,21 @@ pub fn with_battery(port: Port, battery: Battery) -> Port
 }
 
 pub fn with_features(mut port: Port, features: [FeatureIndex; FEATURES]) -> Port
-    ensures { λ r. ⌜ r ≡ withFeatures port features ⌝ }
+    ensures changed { λ r. ⌜ r ≡ withFeatures port features ⌝ }
 {
     port.features = features;
     port
 }
 
 pub fn with_places(mut port: Port, places: [Request; PLACES]) -> Port
-    ensures { λ r. ⌜ r ≡ withPlaces port places ⌝ }
+    ensures changed { λ r. ⌜ r ≡ withPlaces port places ⌝ }
 {
     port.places = places;
     port
 }
 
 pub fn with_link(mut port: Port, up: bool) -> Port
-    ensures { λ r. ⌜ r ≡ withLink port up ⌝ }
+    ensures changed { λ r. ⌜ r ≡ withLink port up ⌝ }
 {
     port.up = up;
     port

@@ -1,6 +1,7 @@
 // The waiting requests of one port: where one may wait, and how one ends.
 ghost use mathlib.Core.Path.{_≡_};
-ghost use Rattle.port.specs.Waiting.{endedAt, roomFor, roomOf, cancelAt, cancelResult};
+ghost use Rattle.port.specs.Waiting.{endedAt, roomFor, cancelAt};
+ghost use Rattle.port.specs.PortContracts.{roomOf, cancelResult};
 use crate::Port;
 use crate::Request;
 use report::FeatureIndex;
@@ -25,7 +26,7 @@ pub struct PortCancelled {
 
 // The port without the request of this place.
 pub fn end_at(port: Port, place: usize) -> Port
-    ensures { λ r. ⌜ r ≡ endedAt port place ⌝ }
+    ensures ended { λ r. ⌜ r ≡ endedAt port place ⌝ }
 {
     let places = port.places;
     let next = crate::with_request(places, place, crate::empty_place());
@@ -34,7 +35,7 @@ pub fn end_at(port: Port, place: usize) -> Port
 
 // The lowest empty place, unless a request with these bytes 2 and 3 waits already.
 pub fn room_for(places: [Request; crate::PLACES], byte2: FeatureIndex, byte3: u8) -> Admission
-    ensures { λ r. ⌜ roomOf r ≡ roomFor places (byte2 .0) byte3 ⌝ }
+    ensures admission { λ r. ⌜ roomOf r ≡ roomFor places (byte2 .0) byte3 ⌝ }
 {
     if crate::first_match(places, byte2, byte3) < crate::PLACES {
         return Admission::Refused(Refusal::AlreadyWaiting);
@@ -48,7 +49,7 @@ pub fn room_for(places: [Request; crate::PLACES], byte2: FeatureIndex, byte3: u8
 
 // Ends the request with these bytes 2 and 3.
 pub fn cancel(port: Port, byte2: FeatureIndex, byte3: u8) -> PortCancelled
-    ensures { λ r. ⌜ cancelResult r ≡ cancelAt port (byte2 .0) byte3 ⌝ }
+    ensures cancelled { λ r. ⌜ cancelResult r ≡ cancelAt port (byte2 .0) byte3 ⌝ }
 {
     let places = port.places;
     let place = crate::first_match(places, byte2, byte3);

@@ -1,9 +1,10 @@
 pub mod Refusals
 pub mod Ports
 pub mod Sizes
-pub mod Reading
-pub mod SizesLaws
-pub mod ReadingLaws
 pub mod Radio
+pub mod Reading
+pub mod ReportContracts
+pub mod ChoicesLaws
+pub mod SizesLaws
 pub mod RadioLaws
 pub mod TableLaws

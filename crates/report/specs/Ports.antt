@@ -3,6 +3,10 @@ use Prim.Native.Nat.{ℕ}
 use mathlib.Core.Bool.{Bool, _&&_, _||_}
 use lib.Dec.{leb, eqb}
 
+-- devices are numbered from 1
+abbrev pub deviceCount : ℕ
+deviceCount = 6
+
 -- the receiver's own number
 abbrev pub receiver : ℕ
 receiver = 255
@@ -13,7 +17,7 @@ inRange lo n hi = leb lo n && leb n hi
 
 -- devices 1 to 6
 abbrev pub isDevice : ℕ → Bool
-isDevice n = inRange 1 n 6
+isDevice n = inRange 1 n deviceCount
 
 -- devices 1 to 6, and 255 for the receiver
 abbrev pub isPort : ℕ → Bool

@@ -1,7 +1,5 @@
 -- Document 01, "Refusal numbers".
 use Prim.Native.Nat.{ℕ}
-use Rattle.report.specs.declared.Refusal.{Refusal}
-use Rattle.report.specs.declared.Refusal.the-variants.{EmptyReport, UnknownId, WrongLength, DownOnly, NoSuchPort, ReservedSubId, NotPaired, NotDeclared, Forbidden, NoRoom, AlreadyWaiting, PlacesFull, NotWaiting, ReservedBits}
 
 -- take: the report is empty
 abbrev pub emptyReport : ℕ
@@ -58,20 +56,3 @@ notWaiting = 13
 -- switch: bit 6 or 7 of the device bits is set; asked before 10
 abbrev pub reservedBits : ℕ
 reservedBits = 14
-
--- the number that each refusal of the program stands for
-abbrev pub numberOf : Refusal → ℕ
-numberOf EmptyReport = emptyReport
-numberOf UnknownId = unknownId
-numberOf WrongLength = wrongLength
-numberOf DownOnly = downOnly
-numberOf NoSuchPort = noSuchPort
-numberOf ReservedSubId = reservedSubId
-numberOf NotPaired = notPaired
-numberOf NotDeclared = notDeclared
-numberOf Forbidden = forbidden
-numberOf NoRoom = noRoom
-numberOf AlreadyWaiting = alreadyWaiting
-numberOf PlacesFull = placesFull
-numberOf NotWaiting = notWaiting
-numberOf ReservedBits = reservedBits

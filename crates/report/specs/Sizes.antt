@@ -1,5 +1,5 @@
 -- Document 01, "Report sizes and bytes".
-use Prim.Native.Nat.{ℕ, _/_, _%_, _^_}
+use Prim.Native.Nat.{ℕ, _+_, _*_, _/_, _%_, _^_}
 use mathlib.Core.List.{List}
 use mathlib.Core.Bool.{Bool, cond, _||_}
 use lib.ListN.{getD}
@@ -17,6 +17,14 @@ djShort = 0x20
 abbrev pub djLong : ℕ
 djLong = 0x21
 
+-- the two ids of the family HID++
+abbrev pub isHidpp : ℕ → Bool
+isHidpp id = eqb id hidppShort || eqb id hidppLong
+
+-- one of the four ids
+abbrev pub isReportId : ℕ → Bool
+isReportId id = isHidpp id || (eqb id djShort || eqb id djLong)
+
 -- the length of a report with this id; 0 where the id is none of the four
 unfoldable pub lengthOf : ℕ → ℕ
 lengthOf id =
@@ -25,9 +33,9 @@ lengthOf id =
     (cond (eqb id djShort) 15
     (cond (eqb id djLong) 32 0)))
 
--- the two ids of the family HID++; the other two are DJ's
-abbrev pub isHidpp : ℕ → Bool
-isHidpp id = eqb id hidppShort || eqb id hidppLong
+-- no report is shorter than the short one of HID++
+abbrev pub shortestSize : ℕ
+shortestSize = 7
 
 -- where the parameters start
 abbrev pub hidppStart : ℕ
@@ -43,6 +51,13 @@ byte bytes i = getD bytes i 0
 -- a bit of a number, counted from 0
 abbrev pub bit : ℕ → ℕ → Bool
 bit i n = eqb (n / 2 ^ i % 2) 1
+
+-- bytes as one number, the lowest first
+abbrev pub joined2 : ℕ → ℕ → ℕ
+joined2 a b = a + 256 * b
+
+abbrev pub joined4 : ℕ → ℕ → ℕ → ℕ → ℕ
+joined4 a b c d = a + 256 * b + 65536 * c + 16777216 * d
 
 -- byte 3 is function × 16 + software id
 abbrev pub softwareId : ℕ → ℕ

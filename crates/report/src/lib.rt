@@ -1,10 +1,11 @@
 // One report on its own: the two sorts of byte, the refusals, and reading without a station.
 ghost use mathlib.Core.Path.{_≡_};
 ghost use Prim.Native.Nat.{_≤_};
-ghost use Rattle.report.specs.Refusals.{numberOf};
+ghost use lib.ListN.{length};
 ghost use Rattle.report.specs.Ports.{inRange, isDevice, isPort};
-ghost use Rattle.report.specs.Sizes.{lengthOf, isHidpp, hidppStart, djStart, byte};
-ghost use Rattle.report.specs.Reading.{readRule, hidppRule, djRule, meaning, isReserved, goesDown, isEmptyList, hasPort};
+ghost use Rattle.report.specs.Sizes.{lengthOf, isHidpp, shortestSize, byte, joined2, joined4};
+ghost use Rattle.report.specs.Reading.{readRule, familyRule, hidppRule, djRule, isReserved, goesDown, isEmptyList, hasPort};
+ghost use Rattle.report.specs.ReportContracts.{numberOf, hidppOf, djOf, readingOf};
 
 pub mod radio;
 
@@ -35,7 +36,7 @@ pub enum Refusal {
 impl Refusal {
     // The number of document 01.
     pub fn number(self) -> u8
-        ensures { λ r. ⌜ r ≡ numberOf self ⌝ }
+        ensures number { λ r. ⌜ r ≡ numberOf self ⌝ }
     {
         match self {
             Refusal::EmptyReport => 1,
@@ -85,6 +86,9 @@ pub const HIDPP_START: u8 = 4;
 
 pub const DJ_START: u8 = 3;
 
+// Devices that can be paired are numbered from 1.
+pub const DEVICES: u8 = 6;
+
 pub const RECEIVER: u8 = 255;
 
 // A HID++ report: its bytes 0 to 3, and where its parameters lie.
@@ -111,35 +115,51 @@ pub enum Reading {
     Refused(Refusal),
     Hidpp(HidppReport),
     Dj(DjReport),
+    // A list of the paired devices that has none. It is for no port.
+    EmptyList(DjReport),
 }
 
-// The byte at an index, or 0 past the end.
-pub fn byte_at(bytes: &[u8], at: usize) -> u8
-    ensures { λ r. ⌜ r ≡ byte (now (bytes .entry)) at ⌝ }
+// The byte at an offset, or 0 past the end.
+pub fn byte_at(bytes: &[u8], offset: usize) -> u8
+    ensures byte { λ r. ⌜ r ≡ byte (now (bytes .entry)) offset ⌝ }
 {
-    if at < bytes.len() {
-        return bytes[at];
+    if offset < bytes.len() {
+        return bytes[offset];
     }
     0
 }
 
+// Two bytes as one number, the lowest first.
+pub fn join2(a: u8, b: u8) -> u16
+    ensures joined { λ r. ⌜ r ≡ joined2 a b ⌝ }
+{
+    (a as u16) + 256 * (b as u16)
+}
+
+// Four bytes as one number, the lowest first.
+pub fn join4(a: u8, b: u8, c: u8, d: u8) -> u32
+    ensures joined { λ r. ⌜ r ≡ joined4 a b c d ⌝ }
+{
+    (a as u32) + 256 * (b as u32) + 65536 * (c as u32) + 16777216 * (d as u32)
+}
+
 // Whether lo <= x <= hi.
 pub fn within(lo: u8, x: u8, hi: u8) -> bool
-    ensures { λ r. ⌜ r ≡ inRange lo x hi ⌝ }
+    ensures inside { λ r. ⌜ r ≡ inRange lo x hi ⌝ }
 {
     if lo <= x { x <= hi } else { false }
 }
 
 // Whether the number is that of a device that can be paired.
 pub fn is_device(device: Device) -> bool
-    ensures { λ r. ⌜ r ≡ isDevice (device .0) ⌝ }
+    ensures named { λ r. ⌜ r ≡ isDevice (device .0) ⌝ }
 {
-    within(1, device.0, 6)
+    within(1, device.0, DEVICES)
 }
 
 // Whether the number is that of a device or of the receiver.
 pub fn is_port(device: Device) -> bool
-    ensures { λ r. ⌜ r ≡ isPort (device .0) ⌝ }
+    ensures named { λ r. ⌜ r ≡ isPort (device .0) ⌝ }
 {
     if is_device(device) {
         return true;
@@ -149,7 +169,7 @@ pub fn is_port(device: Device) -> bool
 
 // The length of a report with this id, or 0 where no report has it.
 pub fn length_of(id: u8) -> u8
-    ensures { λ r. ⌜ r ≡ lengthOf id ⌝ }
+    ensures length { λ r. ⌜ r ≡ lengthOf id ⌝ }
 {
     match id {
         HIDPP_SHORT => 7,
@@ -162,7 +182,7 @@ pub fn length_of(id: u8) -> u8
 
 // Whether the id is one of HID++'s two.
 pub fn is_hidpp(id: u8) -> bool
-    ensures { λ r. ⌜ r ≡ isHidpp id ⌝ }
+    ensures family { λ r. ⌜ r ≡ isHidpp id ⌝ }
 {
     if id == HIDPP_SHORT {
         return true;
@@ -180,22 +200,16 @@ fn is_reserved(byte2: FeatureIndex) -> bool
     within(0x90, byte2.0, 0xfe)
 }
 
-fn read_hidpp(id: u8, size: u8, device: Device, byte2: FeatureIndex, byte3: u8) -> Reading
-    requires { ⌜ hidppStart ≤ size ⌝ }
-    ensures { λ r. ⌜ meaning r ≡ hidppRule id size (device .0) (byte2 .0) byte3 ⌝ }
+fn read_hidpp(report: HidppReport) -> Reading
+    ensures { λ r. ⌜ readingOf r ≡ hidppRule (hidppOf report) ⌝ }
 {
+    let device = report.device;
+    let byte2 = report.byte2;
     if is_port(device) {
         if is_reserved(byte2) {
             return Reading::Refused(Refusal::ReservedSubId);
         }
-        return Reading::Hidpp(HidppReport {
-            id,
-            device,
-            byte2,
-            byte3,
-            start: HIDPP_START,
-            length: size - HIDPP_START,
-        });
+        return Reading::Hidpp(report);
     }
     Reading::Refused(Refusal::NoSuchPort)
 }
@@ -211,7 +225,7 @@ fn goes_down(kind: u8) -> bool
 }
 
 // Whether a DJ report says that no device is paired.
-pub fn is_empty_list(kind: u8, p0: u8) -> bool
+fn is_empty_list(kind: u8, p0: u8) -> bool
     ensures { λ r. ⌜ r ≡ isEmptyList kind p0 ⌝ }
 {
     if kind == DJ_PAIRED {
@@ -220,58 +234,76 @@ pub fn is_empty_list(kind: u8, p0: u8) -> bool
     false
 }
 
-// Whether a DJ report names a port that its type takes. An empty list's index is not looked at.
-fn has_port(device: Device, kind: u8, p0: u8) -> bool
-    ensures { λ r. ⌜ r ≡ hasPort (device .0) kind p0 ⌝ }
+// Whether a DJ report of this type is for the device.
+fn has_port(device: Device, kind: u8) -> bool
+    ensures { λ r. ⌜ r ≡ hasPort (device .0) kind ⌝ }
 {
-    if is_empty_list(kind, p0) {
-        return true;
-    }
     if kind <= DJ_CONNECTION {
         return is_device(device);
     }
     is_port(device)
 }
 
-fn read_dj(id: u8, size: u8, device: Device, kind: u8, p0: u8) -> Reading
-    requires { ⌜ djStart ≤ size ⌝ }
-    ensures { λ r. ⌜ meaning r ≡ djRule id size (device .0) kind p0 ⌝ }
+// The index of an empty list is not looked at.
+fn read_dj(report: DjReport) -> Reading
+    ensures { λ r. ⌜ readingOf r ≡ djRule (djOf report) ⌝ }
 {
+    let device = report.device;
+    let kind = report.kind;
     if goes_down(kind) {
         return Reading::Refused(Refusal::DownOnly);
     }
-    if has_port(device, kind, p0) {
-        return Reading::Dj(DjReport {
-            id,
-            device,
-            kind,
-            p0,
-            start: DJ_START,
-            length: size - DJ_START,
-        });
+    if is_empty_list(kind, report.p0) {
+        return Reading::EmptyList(report);
+    }
+    if has_port(device, kind) {
+        return Reading::Dj(report);
     }
     Reading::Refused(Refusal::NoSuchPort)
 }
 
+// Reads a report that has the length of its id.
+fn read_sized(bytes: &[u8], size: u8) -> Reading
+    requires whole { ⌜ length (now bytes) ≡ size ⌝ }
+    requires long { ⌜ shortestSize ≤ size ⌝ }
+    ensures { λ r. ⌜ readingOf r ≡ familyRule (now (bytes .entry)) ⌝ }
+{
+    let id = bytes[0];
+    let device = Device(bytes[1]);
+    if is_hidpp(id) {
+        read_hidpp(HidppReport {
+            id,
+            device,
+            byte2: FeatureIndex(bytes[2]),
+            byte3: bytes[3],
+            start: HIDPP_START,
+            length: size - HIDPP_START,
+        })
+    } else {
+        read_dj(DjReport {
+            id,
+            device,
+            kind: bytes[2],
+            p0: bytes[3],
+            start: DJ_START,
+            length: size - DJ_START,
+        })
+    }
+}
+
 // Reads one report: the refusals 1 to 6, or what it holds.
 pub fn read(bytes: &[u8]) -> Reading
-    ensures { λ r. ⌜ meaning r ≡ readRule (now (bytes .entry)) ⌝ }
+    ensures reading { λ r. ⌜ readingOf r ≡ readRule (now (bytes .entry)) ⌝ }
 {
     if bytes.len() == 0 {
         return Reading::Refused(Refusal::EmptyReport);
     }
-    let id = bytes[0];
-    let size = length_of(id);
+    let size = length_of(bytes[0]);
     if size == 0 {
         return Reading::Refused(Refusal::UnknownId);
     }
     if bytes.len() != size as usize {
         return Reading::Refused(Refusal::WrongLength);
     }
-    let device = Device(bytes[1]);
-    if is_hidpp(id) {
-        read_hidpp(id, size, device, FeatureIndex(bytes[2]), bytes[3])
-    } else {
-        read_dj(id, size, device, bytes[2], bytes[3])
-    }
+    read_sized(bytes, size)
 }

@@ -1,7 +1,8 @@
 pub mod Stations
-pub mod Taking
+pub mod StationTaking
+pub mod StationCalls
+pub mod StationContracts
+pub mod StationPromises
 pub mod StationsLaws
-pub mod TakingLaws
-pub mod Calls
-pub mod Promises
-pub mod CallsLaws
+pub mod StationTakingLaws
+pub mod StationCallsLaws

@@ -1,11 +1,8 @@
 -- `dj::take_link` meets its contract.
-use Rattle.dj.specs.Taking.{linkRule}
+use Rattle.dj.specs.DjTaking.{linkRule}
 use borrow.Author.Needs.{needs}
 use Rattle.dj.proofs.take_link.Statement.{statement}
 use Rattle.dj.proofs.take_link.Tie as tie
-
-with-link-requires : tie.Need-with-link-requires
-with-link-requires c κs = search needs
 
 returns : tie.Need-returns
 unfolding linkRule
@@ -16,4 +13,4 @@ unfolding linkRule
 returns-2 c = simp (c .if1 .left)
 
 pub take-link-spec : {M : Type 1} → statement M
-take-link-spec = tie.close (tie.spec with-link-requires returns returns-2)
+take-link-spec = tie.close (tie.spec (λ c κs. search needs) returns returns-2)

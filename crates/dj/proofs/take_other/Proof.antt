@@ -1,6 +1,6 @@
 -- `dj::take_other` meets its contract.
 use mathlib.Core.Path.{refl}
-use Rattle.dj.specs.Taking.{otherRule}
+use Rattle.dj.specs.DjTaking.{otherRule}
 use Rattle.dj.proofs.take_other.Statement.{statement}
 use Rattle.dj.proofs.take_other.Tie as tie
 

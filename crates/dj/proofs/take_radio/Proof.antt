@@ -1,7 +1,7 @@
 -- `dj::take_radio` meets its contract.
 use mathlib.Core.Path.{sym, _∙_}
 use borrow.Author.Tests.{not-true, not-false}
-use Rattle.dj.specs.Taking.{radioRule}
+use Rattle.dj.specs.DjTaking.{radioRule}
 use borrow.Author.Needs.{needs}
 use Rattle.dj.proofs.take_radio.Statement.{statement}
 use Rattle.dj.proofs.take_radio.Tie as tie
@@ -10,30 +10,21 @@ returns : tie.Need-returns
 unfolding radioRule
 returns c = simp (not-true (c .before .before .args .port .paired) (c .if1 .taken))
 
-is-declared-requires : tie.Need-is-declared-requires
-is-declared-requires c κs = search needs
-
 returns-2 : tie.Need-returns-2
 unfolding radioRule
 returns-2 c = simp (not-false (c .before .before .before .before .args .port .paired) (c .before .before .if1 .left), sym (c .before .is-declared .ensures) ∙ not-true _ (c .if2 .taken))
 
-heard-requires : tie.Need-heard-requires
-heard-requires c κs = search needs
-
-with-link-requires : tie.Need-with-link-requires
-with-link-requires c κs = search needs
-
 returns-3 : tie.Need-returns-3
 unfolding radioRule
-returns-3 c = simp (not-false (c .before .before .before .before .before .before .args .port .paired) (c .before .before .before .before .if1 .left), sym (c .before .before .before .is-declared .ensures) ∙ not-false _ (c .before .before .if2 .left), c .before .heard .ensures, c .with-link .ensures)
+returns-3 c = simp (not-false (c .before .before .before .before .before .before .args .port .paired) (c .before .before .before .before .if1 .left), sym (c .before .before .before .is-declared .ensures) ∙ not-false _ (c .before .before .if2 .left), c .before .radio-answer .ensures, c .with-link .ensures)
 
 pub take-radio-spec : {M : Type 1} → statement M
 take-radio-spec =
     tie.close
     (tie.spec
     returns
-    is-declared-requires
+    (λ c κs. search needs)
     returns-2
-    heard-requires
-    with-link-requires
+    (λ c κs. search needs)
+    (λ c κs. search needs)
     returns-3)

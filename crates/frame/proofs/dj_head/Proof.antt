@@ -1,6 +1,6 @@
 -- `frame::dj_head` meets its contract.
 use mathlib.Core.Path.{refl}
-use Rattle.frame.specs.Heads.{djHead}
+use Rattle.frame.specs.FrameContracts.{djHead}
 use Rattle.frame.proofs.dj_head.Statement.{statement}
 use Rattle.frame.proofs.dj_head.Tie as tie
 

@@ -1,4 +1,4 @@
--- `frame::fill` meets its contract. The loop's state is `Filling`: of the rest, the first i bytes stand after the head. One proof serves every length.
+-- `frame::fill` meets its contract. The loop's state is `Filling`: of the rest, the first i bytes follow the head. One proof serves every length.
 use Prim.Native.Nat.{_-_}
 use native.Mathlib.Omega.{arith}
 use lib.ListN.{length, length-set}
@@ -13,9 +13,6 @@ Inv-loop part₀ rest i₀ part i = Filling part₀ rest part i
 abbrev μ-loop : tie.MeasureT-loop
 μ-loop part₀ rest i₀ part i = length rest - i
 
-slice-write-part : tie.Need-slice-write-part Inv-loop μ-loop
-slice-write-part c = omega arith
-
 slice-write-part-2 : tie.Need-slice-write-part-2 Inv-loop μ-loop
 slice-write-part-2 c = simp length-set (omega arith)
 
@@ -28,20 +25,11 @@ slice-write-part-4 c = simp length-set (omega arith)
 loop-holds : tie.Need-loop-holds Inv-loop μ-loop
 loop-holds c = begun _ _ (simp length-set (c .pre))
 
-shared-slice-read-part : tie.Need-shared-slice-read-part Inv-loop μ-loop
-shared-slice-read-part c = omega arith
-
 add-part : tie.Need-add-part Inv-loop μ-loop
 add-part c = omega (arith, c .before .before .loop .inv .within, c .before .before .loop .inv .room)
 
 slice-write-part-5 : tie.Need-slice-write-part-5 Inv-loop μ-loop
 slice-write-part-5 c = omega (arith, filling-length (c .before .before .loop .inv), c .before .before .loop .inv .room)
-
-add-i : tie.Need-add-i Inv-loop μ-loop
-add-i c = omega arith
-
-loop-less : tie.Need-loop-less Inv-loop μ-loop
-loop-less c = omega arith
 
 loop-again : tie.Need-loop-again Inv-loop μ-loop
 loop-again c = more (c .before .before .loop .inv) (c .before .loop-test .taken)
@@ -58,16 +46,16 @@ fill-spec =
     (tie.spec
     Inv-loop
     μ-loop
-    slice-write-part
+    (λ c. omega arith)
     slice-write-part-2
     slice-write-part-3
     slice-write-part-4
     loop-holds
-    shared-slice-read-part
+    (λ c. omega arith)
     add-part
     slice-write-part-5
-    add-i
-    loop-less
+    (λ c. omega arith)
+    (λ c. omega arith)
     loop-again
     same-length
     returns)

@@ -7,11 +7,8 @@ use Rattle.frame.proofs.is_askable.Tie as tie
 returns : tie.Need-returns
 returns c = simp (lt-ltb _ _ (c .if1 .taken))
 
-within-requires : tie.Need-within-requires
-within-requires c κs = search needs
-
 returns-2 : tie.Need-returns-2
 returns-2 c = simp (le-ltb _ _ (c .before .if1 .left)) (c .within .ensures)
 
 pub is-askable-spec : {M : Type 1} → statement M
-is-askable-spec = tie.close (tie.spec returns within-requires returns-2)
+is-askable-spec = tie.close (tie.spec returns (λ c κs. search needs) returns-2)

@@ -7,24 +7,9 @@ use borrow.Author.Needs.{needs}
 use Rattle.frame.proofs.led_frame.Statement.{statement}
 use Rattle.frame.proofs.led_frame.Tie as tie
 
-is-device-requires : tie.Need-is-device-requires
-is-device-requires c κs = search needs
-
 returns : tie.Need-returns
 unfolding ledRule
 returns c = simp (sym (c .before .is-device .ensures) ∙ not-true _ (c .if1 .taken))
-
-dj-head-requires : tie.Need-dj-head-requires
-dj-head-requires c κs = search needs
-
-slice-aggregate-write-at : tie.Need-slice-aggregate-write-at
-slice-aggregate-write-at c = search needs
-
-write-at-requires : tie.Need-write-at-requires
-write-at-requires c κs = search needs
-
-same-length : tie.Need-same-length
-same-length c = search needs
 
 returns-2 : tie.Need-returns-2
 unfolding ledRule
@@ -34,10 +19,10 @@ pub led-frame-spec : {M : Type 1} → statement M
 led-frame-spec =
     tie.close
     (tie.spec
-    is-device-requires
+    (λ c κs. search needs)
     returns
-    dj-head-requires
-    slice-aggregate-write-at
-    write-at-requires
-    same-length
+    (λ c κs. search needs)
+    (λ c. search needs)
+    (λ c κs. search needs)
+    (λ c. search needs)
     returns-2)

@@ -1,6 +1,6 @@
 -- `hidpp::as_index` meets its contract.
 use borrow.Author.Tests.{le-leb, lt-leb}
-use Rattle.hidpp.specs.Learning.{indexFrom}
+use Rattle.hidpp.specs.HidppRecords.{indexFrom}
 use Rattle.hidpp.proofs.as_index.Statement.{statement}
 use Rattle.hidpp.proofs.as_index.Tie as tie
 

@@ -4,9 +4,6 @@ use borrow.Author.Needs.{needs}
 use Rattle.hidpp.proofs.is_event_0.Statement.{statement}
 use Rattle.hidpp.proofs.is_event_0.Tie as tie
 
-is-held-requires : tie.Need-is-held-requires
-is-held-requires c κs = search needs
-
 returns : tie.Need-returns
 returns c = simp (sym (c .before .before .is-held .ensures) ∙ c .before .if1 .taken)
 
@@ -14,4 +11,4 @@ returns-2 : tie.Need-returns-2
 returns-2 c = simp (sym (c .before .is-held .ensures) ∙ c .if1 .left)
 
 pub is-event-0-spec : {M : Type 1} → statement M
-is-event-0-spec = tie.close (tie.spec is-held-requires returns returns-2)
+is-event-0-spec = tie.close (tie.spec (λ c κs. search needs) returns returns-2)

@@ -3,17 +3,9 @@ use borrow.Author.Needs.{needs}
 use Rattle.hidpp.proofs.is_major_1.Statement.{statement}
 use Rattle.hidpp.proofs.is_major_1.Tie as tie
 
-enum-told : tie.Need-enum-told
-enum-told c = search needs
-
-enum-known-version : tie.Need-enum-known-version
-enum-known-version c = search needs
-
-returns : tie.Need-returns
-returns c = search needs
-
 returns-2 : tie.Need-returns-2
 returns-2 c = simp (c .before .version .given .1)
 
 pub is-major-1-spec : {M : Type 1} → statement M
-is-major-1-spec = tie.close (tie.spec enum-told enum-known-version returns returns-2)
+is-major-1-spec =
+    tie.close (tie.spec (λ c. search needs) (λ c. search needs) (λ c. search needs) returns-2)

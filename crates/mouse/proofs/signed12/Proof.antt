@@ -10,14 +10,8 @@ use Rattle.mouse.proofs.TwosComplement.{kept, lowered, difference}
 use Rattle.mouse.proofs.signed12.Statement.{statement}
 use Rattle.mouse.proofs.signed12.Tie as tie
 
-cast-result : tie.Need-cast-result
-cast-result c = search needs
-
 returns : tie.Need-returns
 returns c = kept w16 12 (c .before .args .bits) (omega arith) (omega arith)
-
-cast-result-2 : tie.Need-cast-result-2
-cast-result-2 c = search needs
 
 sub-result : tie.Need-sub-result
 sub-result c = let small : c .before .args .bits < 2 ^ hbits w16 = omega arith in search (needs, difference)
@@ -26,4 +20,5 @@ returns-2 : tie.Need-returns-2
 returns-2 c = toZ-ofZ (sub-result c) ∙ lowered w16 12 (c .before .args .bits) (omega arith) (omega arith)
 
 pub signed12-spec : {M : Type 1} → statement M
-signed12-spec = tie.close (tie.spec cast-result returns cast-result-2 sub-result returns-2)
+signed12-spec =
+    tie.close (tie.spec (λ c. search needs) returns (λ c. search needs) sub-result returns-2)

@@ -11,14 +11,8 @@ use Rattle.mouse.proofs.TwosComplement.{kept, lowered, difference, held
 use Rattle.mouse.proofs.signed8.Statement.{statement}
 use Rattle.mouse.proofs.signed8.Tie as tie
 
-cast-result : tie.Need-cast-result
-cast-result c = search needs
-
 returns : tie.Need-returns
 returns c = kept w8 8 (c .before .args .bits) (omega arith) (omega arith)
-
-cast-result-2 : tie.Need-cast-result-2
-cast-result-2 c = search needs
 
 sub-result : tie.Need-sub-result
 sub-result c = let small : c .before .args .bits < 2 ^ hbits w16 = omega arith in search (needs, difference)
@@ -31,4 +25,11 @@ returns-2 c = toZ-ofZ (cast-result-3 c) ∙ toZ-ofZ (sub-result c) ∙ lowered w
 
 pub signed8-spec : {M : Type 1} → statement M
 signed8-spec =
-    tie.close (tie.spec cast-result returns cast-result-2 sub-result cast-result-3 returns-2)
+    tie.close
+    (tie.spec
+    (λ c. search needs)
+    returns
+    (λ c. search needs)
+    sub-result
+    cast-result-3
+    returns-2)

@@ -17,23 +17,8 @@ abbrev μ-loop : tie.MeasureT-loop
 loop-holds : tie.Need-loop-holds Inv-loop μ-loop
 loop-holds c = sum-begun _ _
 
-mul-request : tie.Need-mul-request Inv-loop μ-loop
-mul-request c = omega arith
-
-array-copy-out-request : tie.Need-array-copy-out-request Inv-loop μ-loop
-array-copy-out-request c = omega arith
-
-one-if-waiting-requires : tie.Need-one-if-waiting-requires Inv-loop μ-loop
-one-if-waiting-requires c κs = search needs
-
 add-count : tie.Need-add-count Inv-loop μ-loop
 add-count c = omega (arith, c .before .before .before .loop .inv .small, c .one-if-waiting .ensures .1)
-
-add-i : tie.Need-add-i Inv-loop μ-loop
-add-i c = omega arith
-
-loop-less : tie.Need-loop-less Inv-loop μ-loop
-loop-less c = omega arith
 
 loop-again : tie.Need-loop-again Inv-loop μ-loop
 loop-again c = sum-more _ _ _ (c .before .before .before .loop .inv) (omega (arith, c .before .before .before .before .good .0 .1 .0 .1)) (c .one-if-waiting .ensures .0) (c .one-if-waiting .ensures .1)
@@ -48,11 +33,11 @@ count-waiting-spec =
     Inv-loop
     μ-loop
     loop-holds
-    mul-request
-    array-copy-out-request
-    one-if-waiting-requires
+    (λ c. omega arith)
+    (λ c. omega arith)
+    (λ c κs. search needs)
     add-count
-    add-i
-    loop-less
+    (λ c. omega arith)
+    (λ c. omega arith)
     loop-again
     returns)

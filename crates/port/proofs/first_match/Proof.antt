@@ -18,23 +18,8 @@ abbrev μ-loop : tie.MeasureT-loop
 loop-holds : tie.Need-loop-holds Inv-loop μ-loop
 loop-holds c = begun _ _
 
-mul-request : tie.Need-mul-request Inv-loop μ-loop
-mul-request c = omega arith
-
-array-copy-out-request : tie.Need-array-copy-out-request Inv-loop μ-loop
-array-copy-out-request c = omega arith
-
-is-match-requires : tie.Need-is-match-requires Inv-loop μ-loop
-is-match-requires c κs = search needs
-
 returns : tie.Need-returns Inv-loop μ-loop
 returns c = sym (hit _ _ _ (c .before .before .before .before .loop .inv) (omega (arith, c .before .before .before .before .before .good .0 .1 .0 .1)) (sym (c .before .is-match .ensures) ∙ c .if1 .taken))
-
-add-i : tie.Need-add-i Inv-loop μ-loop
-add-i c = omega arith
-
-loop-less : tie.Need-loop-less Inv-loop μ-loop
-loop-less c = omega arith
 
 loop-again : tie.Need-loop-again Inv-loop μ-loop
 loop-again c = miss _ _ _ (c .before .before .before .before .loop .inv) (omega (arith, c .before .before .before .before .before .good .0 .1 .0 .1)) (sym (c .before .is-match .ensures) ∙ c .if1 .left)
@@ -49,11 +34,11 @@ first-match-spec =
     Inv-loop
     μ-loop
     loop-holds
-    mul-request
-    array-copy-out-request
-    is-match-requires
+    (λ c. omega arith)
+    (λ c. omega arith)
+    (λ c κs. search needs)
     returns
-    add-i
-    loop-less
+    (λ c. omega arith)
+    (λ c. omega arith)
     loop-again
     returns-2)

@@ -4,12 +4,9 @@ use borrow.Author.Needs.{needs}
 use Rattle.port.proofs.fresh.Statement.{statement}
 use Rattle.port.proofs.fresh.Tie as tie
 
-empty-place-requires : tie.Need-empty-place-requires
-empty-place-requires c κs = search needs
-
 returns : tie.Need-returns
 unfolding freshPort
 returns c = simp (c .empty-place .ensures)
 
 pub fresh-spec : {M : Type 1} → statement M
-fresh-spec = tie.close (tie.spec empty-place-requires returns)
+fresh-spec = tie.close (tie.spec (λ c κs. search needs) returns)

@@ -1,23 +1,16 @@
 -- `port::lowered` meets its contract.
-use borrow.Author.Tests.{le-leb, lt-leb}
 use Rattle.port.specs.Ticks.{afterTick}
+use Rattle.port.specs.TicksLaws.{goes-on}
 use borrow.Author.Needs.{needs}
 use Rattle.port.proofs.lowered.Statement.{statement}
 use Rattle.port.proofs.lowered.Tie as tie
 
-empty-place-requires : tie.Need-empty-place-requires
-empty-place-requires c κs = search needs
-
 returns : tie.Need-returns
 unfolding afterTick
-returns c = simp (le-leb _ _ (c .before .if1 .taken)) (c .empty-place .ensures)
-
-sub-next : tie.Need-sub-next
-sub-next c = search needs
+returns c = simp (c .before .if1 .taken) (c .empty-place .ensures)
 
 returns-2 : tie.Need-returns-2
-unfolding afterTick
-returns-2 c = simp (lt-leb _ _ (c .if1 .left))
+returns-2 c = goes-on _ (c .before .if1 .left) (c .one-less .ensures)
 
 pub lowered-spec : {M : Type 1} → statement M
-lowered-spec = tie.close (tie.spec empty-place-requires returns sub-next returns-2)
+lowered-spec = tie.close (tie.spec (λ c κs. search needs) returns (λ c κs. search needs) returns-2)

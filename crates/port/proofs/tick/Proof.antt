@@ -19,32 +19,8 @@ abbrev μ-loop : tie.MeasureT-loop
 loop-holds : tie.Need-loop-holds Inv-loop μ-loop
 loop-holds c = (map-begun _ _, sum-begun _ _)
 
-mul-request : tie.Need-mul-request Inv-loop μ-loop
-mul-request c = omega arith
-
-array-copy-out-request : tie.Need-array-copy-out-request Inv-loop μ-loop
-array-copy-out-request c = omega arith
-
-one-if-ending-requires : tie.Need-one-if-ending-requires Inv-loop μ-loop
-one-if-ending-requires c κs = search needs
-
 add-ended : tie.Need-add-ended Inv-loop μ-loop
 add-ended c = omega (arith, c .before .before .before .loop .inv .1 .small, c .one-if-ending .ensures .1)
-
-lowered-requires : tie.Need-lowered-requires Inv-loop μ-loop
-lowered-requires c κs = search needs
-
-mul-next : tie.Need-mul-next Inv-loop μ-loop
-mul-next c = omega arith
-
-array-set-from-next : tie.Need-array-set-from-next Inv-loop μ-loop
-array-set-from-next c = omega arith
-
-add-i : tie.Need-add-i Inv-loop μ-loop
-add-i c = omega arith
-
-loop-less : tie.Need-loop-less Inv-loop μ-loop
-loop-less c = omega arith
 
 loop-again : tie.Need-loop-again Inv-loop μ-loop
 loop-again c = (map-more _ _ _ (c .before .before .before .before .loop .inv .0) (omega (arith, c .before .before .before .before .before .good .0 .1 .0 .1)) (c .lowered .ensures), sum-more _ _ _ (c .before .before .before .before .loop .inv .1) (omega (arith, c .before .before .before .before .before .good .0 .1 .0 .1)) (c .before .one-if-ending .ensures .0) (c .before .one-if-ending .ensures .1))
@@ -59,14 +35,14 @@ tick-spec =
     Inv-loop
     μ-loop
     loop-holds
-    mul-request
-    array-copy-out-request
-    one-if-ending-requires
+    (λ c. omega arith)
+    (λ c. omega arith)
+    (λ c κs. search needs)
     add-ended
-    lowered-requires
-    mul-next
-    array-set-from-next
-    add-i
-    loop-less
+    (λ c κs. search needs)
+    (λ c. omega arith)
+    (λ c. omega arith)
+    (λ c. omega arith)
+    (λ c. omega arith)
     loop-again
     returns)

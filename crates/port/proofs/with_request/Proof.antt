@@ -6,17 +6,9 @@ use borrow.Author.Needs.{needs}
 use Rattle.port.proofs.with_request.Statement.{statement}
 use Rattle.port.proofs.with_request.Tie as tie
 
-mul-next : tie.Need-mul-next
-mul-next c = search needs
-
-array-set-from-next : tie.Need-array-set-from-next
-array-set-from-next c = search needs
-
-returns : tie.Need-returns
-returns c = search needs
-
 returns-2 : tie.Need-returns-2
 returns-2 c = sym (set-out _ _ _ (omega (arith, c .if1 .left, c .before .good .0 .1 .0 .1)))
 
 pub with-request-spec : {M : Type 1} → statement M
-with-request-spec = tie.close (tie.spec mul-next array-set-from-next returns returns-2)
+with-request-spec =
+    tie.close (tie.spec (λ c. search needs) (λ c. search needs) (λ c. search needs) returns-2)

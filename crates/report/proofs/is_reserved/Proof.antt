@@ -4,17 +4,12 @@ use borrow.Author.Needs.{needs}
 use Rattle.report.proofs.is_reserved.Statement.{statement}
 use Rattle.report.proofs.is_reserved.Tie as tie
 
-within-requires : tie.Need-within-requires
-within-requires c κs = search needs
-
 returns : tie.Need-returns
 returns c = simp (sym (c .before .within .ensures) ∙ c .if1 .taken)
-
-within-requires-2 : tie.Need-within-requires-2
-within-requires-2 c κs = search needs
 
 returns-2 : tie.Need-returns-2
 returns-2 c = simp (sym (c .before .before .within .ensures) ∙ c .before .if1 .left) (c .within2 .ensures)
 
 pub is-reserved-spec : {M : Type 1} → statement M
-is-reserved-spec = tie.close (tie.spec within-requires returns within-requires-2 returns-2)
+is-reserved-spec =
+    tie.close (tie.spec (λ c κs. search needs) returns (λ c κs. search needs) returns-2)

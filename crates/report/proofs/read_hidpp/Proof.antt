@@ -5,18 +5,9 @@ use borrow.Author.Needs.{needs}
 use Rattle.report.proofs.read_hidpp.Statement.{statement}
 use Rattle.report.proofs.read_hidpp.Tie as tie
 
-is-port-requires : tie.Need-is-port-requires
-is-port-requires c κs = search needs
-
-is-reserved-requires : tie.Need-is-reserved-requires
-is-reserved-requires c κs = search needs
-
 returns : tie.Need-returns
 unfolding hidppRule
 returns c = simp (sym (c .before .before .before .is-port .ensures) ∙ c .before .before .if1 .taken, sym (c .before .is-reserved .ensures) ∙ c .if2 .taken)
-
-sub-t9 : tie.Need-sub-t9
-sub-t9 c = search needs
 
 returns-2 : tie.Need-returns-2
 unfolding hidppRule
@@ -28,4 +19,4 @@ returns-3 c = simp (sym (c .before .is-port .ensures) ∙ c .if1 .left)
 
 pub read-hidpp-spec : {M : Type 1} → statement M
 read-hidpp-spec =
-    tie.close (tie.spec is-port-requires is-reserved-requires returns sub-t9 returns-2 returns-3)
+    tie.close (tie.spec (λ c κs. search needs) (λ c κs. search needs) returns returns-2 returns-3)

@@ -6,8 +6,8 @@ use lib.ListN.{getD}
 use borrow.Author.Needs.{needs}
 use Rattle.port.specs.MapLaws.{Mapped, map-begun, map-more, map-done, Listed, list-begun, list-more, list-done}
 use Rattle.station.specs.Stations.{portCount, noPort}
-use Rattle.station.specs.Calls.{tickedPort, endedOn}
-use Rattle.station.specs.CallsLaws.{ticked-port, ended-on, ports-ticked}
+use Rattle.station.specs.StationCalls.{tickedPort, endedOn}
+use Rattle.station.specs.StationCallsLaws.{ticked-port, ended-on, ports-ticked}
 use Rattle.station.proofs.tick_ports.Statement.{statement}
 use Rattle.station.proofs.tick_ports.Tie as tie
 
@@ -19,33 +19,6 @@ abbrev μ-loop : tie.MeasureT-loop
 
 loop-holds : tie.Need-loop-holds Inv-loop μ-loop
 loop-holds c = (map-begun _ _, list-begun _ _ _ _ (sym (c .good .0 .1 .0 .1)))
-
-mul-port : tie.Need-mul-port Inv-loop μ-loop
-mul-port c = omega arith
-
-array-copy-out-port : tie.Need-array-copy-out-port Inv-loop μ-loop
-array-copy-out-port c = omega arith
-
-tick-requires : tie.Need-tick-requires Inv-loop μ-loop
-tick-requires c κs = search needs
-
-with-places-requires : tie.Need-with-places-requires Inv-loop μ-loop
-with-places-requires c κs = search needs
-
-mul-next : tie.Need-mul-next Inv-loop μ-loop
-mul-next c = omega arith
-
-array-set-from-next : tie.Need-array-set-from-next Inv-loop μ-loop
-array-set-from-next c = omega arith
-
-array-write-ended : tie.Need-array-write-ended Inv-loop μ-loop
-array-write-ended c = omega arith
-
-add-i : tie.Need-add-i Inv-loop μ-loop
-add-i c = omega arith
-
-loop-less : tie.Need-loop-less Inv-loop μ-loop
-loop-less c = omega arith
 
 loop-again : tie.Need-loop-again Inv-loop μ-loop
 loop-again c = (map-more _ _ _ (c .before .before .before .before .before .before .loop .inv .0) (omega (arith, c .before .before .before .before .before .before .before .good .0 .1 .0 .1)) (ticked-port (getD (c .before .before .before .before .before .before .before .args .t1) (c .before .before .before .before .before .before .loop .i) noPort) (c .before .before .tick .ensures) (c .with-places .ensures)), list-more _ noPort _ (c .before .before .before .before .before .before .loop .inv .1) (omega (arith, c .before .before .before .before .before .before .before .good .0 .1 .0 .1)) (ended-on (getD (c .before .before .before .before .before .before .before .args .t1) (c .before .before .before .before .before .before .loop .i) noPort) (c .before .before .tick .ensures)))
@@ -60,14 +33,14 @@ tick-ports-spec =
     Inv-loop
     μ-loop
     loop-holds
-    mul-port
-    array-copy-out-port
-    tick-requires
-    with-places-requires
-    mul-next
-    array-set-from-next
-    array-write-ended
-    add-i
-    loop-less
+    (λ c. omega arith)
+    (λ c. omega arith)
+    (λ c κs. search needs)
+    (λ c κs. search needs)
+    (λ c. omega arith)
+    (λ c. omega arith)
+    (λ c. omega arith)
+    (λ c. omega arith)
+    (λ c. omega arith)
     loop-again
     returns)

@@ -5,12 +5,6 @@ use borrow.Author.Needs.{needs}
 use Rattle.port.proofs.waiting.cancel.Statement.{statement}
 use Rattle.port.proofs.waiting.cancel.Tie as tie
 
-first-match-requires : tie.Need-first-match-requires
-first-match-requires c κs = search needs
-
-end-at-requires : tie.Need-end-at-requires
-end-at-requires c κs = search needs
-
 returns : tie.Need-returns
 unfolding cancelAt
 returns c = simp (is-found (c .before .before .first-match .ensures) (c .before .if1 .taken), c .end-at .ensures, c .before .before .first-match .ensures)
@@ -20,4 +14,4 @@ unfolding cancelAt
 returns-2 c = simp (not-found (c .before .first-match .ensures) (c .if1 .left))
 
 pub cancel-spec : {M : Type 1} → statement M
-cancel-spec = tie.close (tie.spec first-match-requires end-at-requires returns returns-2)
+cancel-spec = tie.close (tie.spec (λ c κs. search needs) (λ c κs. search needs) returns returns-2)

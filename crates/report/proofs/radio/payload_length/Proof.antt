@@ -12,9 +12,6 @@ returns : tie.Need-returns
 unfolding payloadLength
 returns c = simp (past-table _ (c .if1 .taken))
 
-array-read-length : tie.Need-array-read-length
-array-read-length c = search needs
-
 returns-2 : tie.Need-returns-2
 unfolding payloadLength tableLength
 returns-2 c = let e = listed-at tableLength radioTypes (c .before .before .args .kind) (c .before .if1 .left) in
@@ -26,4 +23,4 @@ returns-3 c = let e = listed-at tableLength radioTypes (c .before .before .args 
     simp (ne-eqb _ _ (λ z. c .if2 .left (e ∙ z))) e
 
 pub payload-length-spec : {M : Type 1} → statement M
-payload-length-spec = tie.close (tie.spec returns array-read-length returns-2 returns-3)
+payload-length-spec = tie.close (tie.spec returns (λ c. search needs) returns-2 returns-3)

@@ -4,12 +4,9 @@ use borrow.Author.Needs.{needs}
 use Rattle.station.proofs.Station.new.Statement.{statement}
 use Rattle.station.proofs.Station.new.Tie as tie
 
-fresh-requires : tie.Need-fresh-requires
-fresh-requires c κs = search needs
-
 returns : tie.Need-returns
 unfolding freshStation
 returns c = simp (c .fresh .ensures)
 
 pub new-spec : {M : Type 1} → statement M
-new-spec = tie.close (tie.spec fresh-requires returns)
+new-spec = tie.close (tie.spec (λ c κs. search needs) returns)

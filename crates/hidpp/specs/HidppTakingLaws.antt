@@ -1,0 +1,50 @@
+-- Laws of taking a HID++ report: the parts that a program makes one by one are those of the rules.
+use Prim.Native.Nat.{ℕ, _<_, _≤_}
+use mathlib.Core.Path.{_≡_, refl}
+use mathlib.Core.Bool.{true}
+use native.Mathlib.Omega.{arith}
+use borrow.Author.Tests.{lt-ltb, le-ltb, le-leb, lt-leb}
+use lib.Dec.{leb}
+use Rattle.report.specs.ChoicesLaws.{by-case}
+use Rattle.port.specs.declared.Port.{Port}
+use Rattle.port.specs.declared.answer.About as program
+use Rattle.port.specs.declared.answer.ErrorKind.{ErrorKind}
+use Rattle.port.specs.declared.answer.Taken.the-variants.{Failed}
+use Rattle.port.specs.Records.{placeCount}
+use Rattle.port.specs.WaitingLaws.{is-found}
+use Rattle.port.specs.Waiting.{waitingAt, endedAt}
+use Rattle.port.specs.Answers.{Answer, Result, About, stray, plain, failed}
+use Rattle.port.specs.PortContracts.{aboutOf, kindNumber, resultOf}
+use Rattle.hidpp.specs.declared.Message.{Message}
+use Rattle.hidpp.specs.HidppRecords.{afterError}
+use Rattle.hidpp.specs.HidppTaking.{about, carried, unchanged, named2, named3, code, errorFits, kindOf, errorRule, featureRule, unaskedRule}
+
+-- an answer by what it carries, and the port after it
+pub carry : (answer : About → Answer) {x y : About} {p q : Port} → x ≡ y → p ≡ q → _≡_ {A = Result} (record { answer = answer x; port = p }) (record { answer = answer y; port = q })
+carry answer e f = λ i. record { answer = answer (e i); port = f i }
+
+pub error-ends : (p : Port) (m : Message) {place : ℕ} (a : program.About) (kind : ErrorKind) {ended next : Port} → errorFits m ≡ true → place ≡ waitingAt p (named2 m) (named3 m) → place < placeCount → aboutOf a ≡ about m (named2 m) (named3 m) → kindNumber kind ≡ kindOf (m .byte2 .0) → ended ≡ endedAt p place → next ≡ afterError ended (m .byte2 .0) (named2 m) (named3 m) (code m) → resultOf (record { answer = Failed a (code m) kind; port = next }) ≡ errorRule p m
+unfolding errorRule
+error-ends p m a kind fits at found carries k e n =
+    simp (fits, is-found at found) (simp (n, e, at) (λ i. result (carries i) (k i)))
+  where
+    result : About → ℕ → Result
+    result x number = record { answer = failed x (code m) number; port = afterError (endedAt p (waitingAt p (named2 m) (named3 m))) (m .byte2 .0) (named2 m) (named3 m) (code m) }
+
+-- byte 2 is 0x80 or above, 0x40 to 0x7F, or below
+module _ (p : Port) (m : Message) where
+  pub above-stray : 0x80 ≤ m .byte2 .0 → unchanged (carried stray m) p ≡ unaskedRule p m
+  unfolding unaskedRule
+  above-stray h =
+      simp (le-leb 0x80 (m .byte2 .0) h, le-leb 0x40 (m .byte2 .0) (omega arith), lt-leb (m .byte2 .0) 0x7F (omega arith), le-ltb (m .byte2 .0) 0x40 (omega arith))
+      (by-case (λ (r : Result). unchanged (carried stray m) p ≡ r) (leb (m .byte2 .0) 0x83) (λ e. refl) (λ e. refl))
+
+  pub between-plain : 0x40 ≤ m .byte2 .0 → m .byte2 .0 < 0x80 → unchanged (carried plain m) p ≡ unaskedRule p m
+  unfolding unaskedRule
+  between-plain h l =
+      simp (lt-leb 0x80 (m .byte2 .0) l, le-leb 0x40 (m .byte2 .0) h, le-leb (m .byte2 .0) 0x7F (omega arith))
+
+  pub below-feature : m .byte2 .0 < 0x40 → featureRule p m ≡ unaskedRule p m
+  unfolding unaskedRule
+  below-feature l =
+      simp (lt-leb 0x80 (m .byte2 .0) (omega arith), lt-leb 0x40 (m .byte2 .0) l, lt-ltb (m .byte2 .0) 0x40 l)
