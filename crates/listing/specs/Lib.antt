@@ -1,5 +1,3 @@
 pub mod Listing
-pub mod ShortLaws
-pub mod LinesLaws
-pub mod WriteLaws
-pub mod Examples
+pub mod ListingWriteLaws
+pub mod ListingExamples

@@ -1,126 +1,63 @@
-// The port listing: paired devices as lines of text, written at a place of a lent buffer.
+// The port listing: paired devices as lines of text, written at an offset of a lent buffer.
 ghost use mathlib.Core.Path.{_≡_};
-ghost use Prim.Native.Nat.{_<_, _≤_};
-ghost use lib.ListN.{length, take};
-ghost use Rattle.text.specs.Words.{decimal};
-ghost use Rattle.text.specs.Putting.{filled, putRule};
-ghost use Rattle.frame.specs.Writing.{ended, frameAt};
-ghost use Rattle.port.specs.Places.{countWaiting};
-ghost use Rattle.listing.specs.Listing.{header, linkText, versionText, batteryText, deviceLine, deviceText, lines, deviceCount, listing, listingRule};
+ghost use Prim.Native.Nat.{_*_};
+ghost use Rattle.text.specs.Putting.{Puts};
+ghost use Rattle.frame.specs.Writing.{frameAt};
+ghost use Rattle.report.specs.Ports.{deviceCount};
+ghost use Rattle.listing.specs.Listing.{deviceLine, deviceText, lineMost, lines, listingRule};
+ghost use Rattle.frame.specs.FrameContracts.{writtenOutcome};
 use frame::Written;
-use port::Battery;
 use port::Port;
-use port::Request;
-use port::Version;
 use report::Refusal;
 
 const TAB: u8 = b'\t';
 
 const NEWLINE: u8 = b'\n';
 
-// Devices 1 to 6 have places 0 to 5 among the ports; the receiver comes last.
-const DEVICES: usize = 6;
+// Devices 1 to 6 have positions 0 to 5 among the ports; the receiver comes last.
+const DEVICES: usize = report::DEVICES as usize;
 
-// Room for every listing: the longest has 305 bytes.
-const ROOM: usize = 320;
+// The header, and the longest line of a device: its fields, and the byte after each.
+const HEADER: usize = 47;
 
-fn put_header(buffer: &mut [u8], at: usize) -> usize
-    ensures { λ r. ⌜ filled r (now (buffer .exit)) ≡ putRule header at (now (buffer .entry)) ⌝ }
-{
-    text::put_word(
-        buffer,
-        at,
-        b"port\twpid\treports\tlink\tversion\tbattery\twaiting\n",
-    )
-}
+const LINE: usize = text::BYTE_MOST
+    + 4
+    + 8
+    + text::LINK_MOST
+    + text::VERSION_MOST
+    + text::BATTERY_MOST
+    + text::BYTE_MOST
+    + 7;
 
-// A decimal number of at most three digits.
-fn put_small(buffer: &mut [u8], at: usize, n: u8) -> usize
-    ensures put { λ r. ⌜ filled r (now (buffer .exit)) ≡ putRule (decimal n) at (now (buffer .entry)) ⌝ }
-    ensures short { λ r. ⌜ length (decimal n) ≤ 3 ⌝ }
-{
-    text::put_decimal(buffer, at, n as usize)
-}
-
-pub fn put_link(buffer: &mut [u8], at: usize, up: bool) -> usize
-    ensures { λ r. ⌜ filled r (now (buffer .exit)) ≡ putRule (linkText up) at (now (buffer .entry)) ⌝ }
-{
-    if up {
-        return text::put_word(buffer, at, b"up");
-    }
-    text::put_word(buffer, at, b"down")
-}
-
-pub fn put_version(buffer: &mut [u8], at: usize, version: Version) -> usize
-    ensures put { λ r. ⌜ filled r (now (buffer .exit)) ≡ putRule (versionText version) at (now (buffer .entry)) ⌝ }
-    ensures short { λ r. ⌜ length (versionText version) ≤ 7 ⌝ }
-{
-    match version {
-        Version::Unknown => text::put_byte(buffer, at, b'-'),
-        Version::Known(major, minor) => {
-            let point = put_small(buffer, at, major);
-            let rest = text::put_byte(buffer, point, b'.');
-            put_small(buffer, rest, minor)
-        }
-    }
-}
-
-pub fn put_battery(buffer: &mut [u8], at: usize, battery: Battery) -> usize
-    ensures put { λ r. ⌜ filled r (now (buffer .exit)) ≡ putRule (batteryText battery) at (now (buffer .entry)) ⌝ }
-    ensures short { λ r. ⌜ length (batteryText battery) ≤ 11 ⌝ }
-{
-    match battery {
-        Battery::Unknown => text::put_byte(buffer, at, b'-'),
-        Battery::Known(level, next, status) => {
-            let first = put_small(buffer, at, level);
-            let second = text::put_byte(buffer, first, b',');
-            let third = put_small(buffer, second, next);
-            let fourth = text::put_byte(buffer, third, b',');
-            put_small(buffer, fourth, status)
-        }
-    }
-}
-
-fn put_waiting(buffer: &mut [u8], at: usize, places: [Request; port::PLACES]) -> usize
-    ensures put { λ r. ⌜ filled r (now (buffer .exit)) ≡ putRule (decimal (countWaiting places)) at (now (buffer .entry)) ⌝ }
-    ensures short { λ r. ⌜ length (decimal (countWaiting places)) ≤ 1 ⌝ }
-{
-    let count = port::count_waiting(places);
-    put_small(buffer, at, count)
-}
+// Room for every listing.
+const ROOM: usize = HEADER + LINE * DEVICES;
 
 // The line of one device.
-fn put_line(buffer: &mut [u8], at: usize, port: Port, number: usize) -> usize
-    requires { ⌜ number < 10 ⌝ }
-    ensures put { λ r. ⌜ filled r (now (buffer .exit)) ≡ putRule (deviceLine number port) at (now (buffer .entry)) ⌝ }
-    ensures short { λ r. ⌜ length (deviceLine number port) ≤ 43 ⌝ }
+fn put_line(buffer: &mut [u8], at: usize, port: Port, number: u8) -> usize
+    ensures { λ r. ⌜ Puts lineMost (deviceLine number port) at (now (buffer .entry)) r (now (buffer .exit)) ⌝ }
 {
-    let wpid = port.wpid;
-    let reports = port.reports;
     let version = port.version;
     let battery = port.battery;
     let places = port.places;
-    let at = text::put_decimal(buffer, at, number);
+    let at = text::put_small(buffer, at, number);
     let at = text::put_byte(buffer, at, TAB);
-    let at = text::put_hex(buffer, at, 4, wpid as usize);
+    let at = text::put_hex(buffer, at, 4, port.wpid as usize);
     let at = text::put_byte(buffer, at, TAB);
-    let at = text::put_hex(buffer, at, 8, reports as usize);
+    let at = text::put_hex(buffer, at, 8, port.reports as usize);
     let at = text::put_byte(buffer, at, TAB);
-    let at = put_link(buffer, at, port.up);
+    let at = text::put_link(buffer, at, port.up);
     let at = text::put_byte(buffer, at, TAB);
-    let at = put_version(buffer, at, version);
+    let at = text::put_version(buffer, at, version);
     let at = text::put_byte(buffer, at, TAB);
-    let at = put_battery(buffer, at, battery);
+    let at = text::put_battery(buffer, at, battery);
     let at = text::put_byte(buffer, at, TAB);
-    let at = put_waiting(buffer, at, places);
+    let at = text::put_small(buffer, at, port::count_waiting(places));
     text::put_byte(buffer, at, NEWLINE)
 }
 
 // The line of a paired device, and nothing of an unpaired one.
-fn put_device(buffer: &mut [u8], at: usize, port: Port, number: usize) -> usize
-    requires { ⌜ number < 10 ⌝ }
-    ensures put { λ r. ⌜ filled r (now (buffer .exit)) ≡ putRule (deviceText number port) at (now (buffer .entry)) ⌝ }
-    ensures short { λ r. ⌜ length (deviceText number port) ≤ 43 ⌝ }
+fn put_device(buffer: &mut [u8], at: usize, port: Port, number: u8) -> usize
+    ensures { λ r. ⌜ Puts lineMost (deviceText number port) at (now (buffer .entry)) r (now (buffer .exit)) ⌝ }
 {
     if port.paired {
         return put_line(buffer, at, port, number);
@@ -130,44 +67,40 @@ fn put_device(buffer: &mut [u8], at: usize, port: Port, number: usize) -> usize
 
 // The lines of devices 1 to 6.
 fn put_lines(buffer: &mut [u8], at: usize, ports: [Port; port::PORTS]) -> usize
-    ensures put { λ r. ⌜ filled r (now (buffer .exit)) ≡ putRule (lines 1 (take deviceCount ports)) at (now (buffer .entry)) ⌝ }
-    ensures short { λ r. ⌜ length (lines 1 (take deviceCount ports)) ≤ 258 ⌝ }
+    ensures { λ r. ⌜ Puts (lineMost * deviceCount) (lines ports) at (now (buffer .entry)) r (now (buffer .exit)) ⌝ }
 {
     let mut next = at;
     let mut i = 0;
     while i < DEVICES {
         let port = ports[i];
-        next = put_device(buffer, next, port, i + 1);
+        next = put_device(buffer, next, port, (i + 1) as u8);
         i += 1;
     }
     next
 }
 
-fn put_listing(buffer: &mut [u8], at: usize, ports: [Port; port::PORTS]) -> usize
-    ensures put { λ r. ⌜ filled r (now (buffer .exit)) ≡ putRule (listing ports) at (now (buffer .entry)) ⌝ }
-    ensures short { λ r. ⌜ length (listing ports) ≤ 305 ⌝ }
-{
-    let next = put_header(buffer, at);
-    put_lines(buffer, next, ports)
-}
-
-// Writes a whole text at its place, or answers 10.
-fn write_at(bytes: &[u8], buffer: &mut [u8], place: usize) -> Written
-    ensures { λ r. ⌜ ended r (now (buffer .exit)) ≡ frameAt (now (bytes .entry)) place (now (buffer .entry)) ⌝ }
+// Writes a whole text at its offset, or answers 10.
+fn write_at(bytes: &[u8], buffer: &mut [u8], offset: usize) -> Written
+    ensures { λ r. ⌜ writtenOutcome r (now (buffer .exit)) ≡ frameAt (now (bytes .entry)) offset (now (buffer .entry)) ⌝ }
 {
     let size = bytes.len();
-    if frame::fits(size, place, buffer.len()) {
-        text::put_word(&mut buffer[place..], 0, bytes);
+    if frame::fits(size, offset, buffer.len()) {
+        text::put_word(&mut buffer[offset..], 0, bytes);
         return Written::Bytes(size);
     }
     Written::Refused(Refusal::NoRoom)
 }
 
 // Writes the listing of the paired devices among the ports: refusal 10.
-pub fn write_listing(ports: [Port; port::PORTS], buffer: &mut [u8], place: usize) -> Written
-    ensures { λ r. ⌜ ended r (now (buffer .exit)) ≡ listingRule ports place (now (buffer .entry)) ⌝ }
+pub fn write_listing(ports: [Port; port::PORTS], buffer: &mut [u8], offset: usize) -> Written
+    ensures written { λ r. ⌜ writtenOutcome r (now (buffer .exit)) ≡ listingRule ports offset (now (buffer .entry)) ⌝ }
 {
     let mut bytes = [0; ROOM];
-    let size = put_listing(&mut bytes, 0, ports);
-    write_at(&bytes[..size], buffer, place)
+    let size = text::put_word(
+        &mut bytes,
+        0,
+        b"port\twpid\treports\tlink\tversion\tbattery\twaiting\n",
+    );
+    let size = put_lines(&mut bytes, size, ports);
+    write_at(&bytes[..size], buffer, offset)
 }

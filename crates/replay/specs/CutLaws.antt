@@ -9,14 +9,14 @@ use lib.ListN.{length, take, drop, length-append}
 use lib.Seq.{length-take-le, take-take, take-append-le, take-append-seam, drop-append-seam}
 use borrow.Author.Tests.{leb-true}
 use Rattle.report.specs.Sizes.{byte}
-use Rattle.line.specs.Words.{space, wordsAfter, words}
-use Rattle.line.specs.Commands.{Command, blank, noCall}
-use Rattle.line.specs.Lines.{callOf, withoutReturn, textRule, lineRule}
-use Rattle.replay.specs.Short.{squeezed, squeezedLine, longest, isCut, shortened}
+use Rattle.replay_line.specs.LineWords.{space, wordsAfter, words}
+use Rattle.replay_line.specs.Commands.{Command, blank, noCall}
+use Rattle.replay_line.specs.LineCalls.{callOf, withoutReturn, textRule, lineRule}
+use Rattle.replay.specs.InputContracts.{squeezed, squeezedLine, longest, isCut, shortened}
 use Rattle.replay.specs.ShortLaws.{return-behind, nonempty-text, first-kept, same-line}
-use Rattle.replay.specs.LengthLaws.{sizeOf, long-is-none}
+use Rattle.replay_line.specs.LineBoundsLaws.{sizeOf, callMost, long-is-none}
 
--- what is left of a text is no longer than its words with a space after each, but for a space at the front
+-- what is left of a text is no longer than its words with a space after each, except for a space at the front
 record Counted (text : List ℕ) : Type 0 where
   begun : (r : ℕ) (read : List ℕ) → suc (length read) + length (squeezed false text) ≤ sizeOf (wordsAfter (r ∷ read) text)
   after : length (squeezed true text) ≤ sizeOf (wordsAfter [] text)
@@ -54,8 +54,11 @@ longer after [] more = omega arith
 longer after (c ∷ text) more =
     either-longer (eqb c space && after) c _ _ _ _ (longer after text more) (longer (eqb c space) text more)
 
--- a text of which so much is left is no call
-none-called : (text : List ℕ) → 811 ≤ length (squeezed false text) → callOf (words text) ≡ noCall
+-- a text of which as much as this is left is no call: one byte more than any call, and a space at the front
+abbrev tooLong : ℕ
+tooLong = callMost + 2
+
+none-called : (text : List ℕ) → tooLong ≤ length (squeezed false text) → callOf (words text) ≡ noCall
 unfolding words
 none-called text h = long-is-none (wordsAfter [] text) (omega (arith, h, counted text .whole))
 
@@ -75,22 +78,22 @@ kept-front after (suc n) [] = refl
 kept-front after (suc n) (c ∷ text) =
     front-by after n c text (kept-front after (suc n) text) (kept-front (eqb c space) n text) (eqb c space && after) refl
 
--- a text is told by its first byte where its words are no call
-pub told-by-first : (c : ℕ) (text : List ℕ) → callOf (words (c ∷ text)) ≡ noCall → textRule (c ∷ text) ≡ cond (eqb c 35) blank noCall
-told-by-first c text e =
+-- the first byte alone decides where the words of a text are no call
+by-first-byte : (c : ℕ) (text : List ℕ) → callOf (words (c ∷ text)) ≡ noCall → textRule (c ∷ text) ≡ cond (eqb c 35) blank noCall
+by-first-byte c text e =
     nonempty-text c text ∙ ap (λ (k : Command). cond (eqb c 35) blank k) e
 
--- the front of so many bytes
-module _ (c : ℕ) (text : List ℕ) (n : ℕ) (long : 811 ≤ suc n) (enough : suc n ≤ length (squeezed false (c ∷ text))) where
+-- the front of a text that is too long
+module _ (c : ℕ) (text : List ℕ) (n : ℕ) (long : tooLong ≤ suc n) (enough : suc n ≤ length (squeezed false (c ∷ text))) where
   front-text : textRule (take (suc n) (squeezed false (c ∷ text))) ≡ cond (eqb c 35) blank noCall
   front-text =
       ap textRule begins
-      ∙ told-by-first c (take n (squeezed (eqb c space) text)) (ap (λ (l : List ℕ). callOf (words l)) (sym begins) ∙ none-called (take (suc n) (squeezed false (c ∷ text))) size)
+      ∙ by-first-byte c (take n (squeezed (eqb c space) text)) (ap (λ (l : List ℕ). callOf (words l)) (sym begins) ∙ none-called (take (suc n) (squeezed false (c ∷ text))) size)
     where
       begins : take (suc n) (squeezed false (c ∷ text)) ≡ c ∷ take n (squeezed (eqb c space) text)
       begins = ap (take (suc n)) (first-kept c text)
 
-      size : 811 ≤ length (squeezed false (take (suc n) (squeezed false (c ∷ text))))
+      size : tooLong ≤ length (squeezed false (take (suc n) (squeezed false (c ∷ text))))
       size =
           omega (arith, long, ap length (kept-front false (suc n) (c ∷ text)), length-take-le (suc n) (squeezed false (c ∷ text)) enough)
 
@@ -103,16 +106,16 @@ return-or-not n line true h p q =
     shorter = omega (arith, length-take-le (suc n) line h)
 return-or-not n line false h p q = q
 
-cut-front : (c : ℕ) (text : List ℕ) (m : ℕ) → 811 ≤ suc m → suc (suc m) ≤ length (squeezed false (c ∷ text)) → lineRule (take (suc (suc m)) (squeezed false (c ∷ text))) ≡ cond (eqb c 35) blank noCall
+cut-front : (c : ℕ) (text : List ℕ) (m : ℕ) → tooLong ≤ suc m → suc (suc m) ≤ length (squeezed false (c ∷ text)) → lineRule (take (suc (suc m)) (squeezed false (c ∷ text))) ≡ cond (eqb c 35) blank noCall
 unfolding lineRule withoutReturn
 cut-front c text m long enough =
     return-or-not (suc m) (squeezed false (c ∷ text)) (eqb (byte (take (suc (suc m)) (squeezed false (c ∷ text))) (length (take (suc (suc m)) (squeezed false (c ∷ text))) - 1)) 13) enough (front-text c text m long (omega (arith, enough))) (front-text c text (suc m) (omega (arith, long)) enough)
 
-whole-line : (c : ℕ) (text : List ℕ) (last : ℕ) (rest : List ℕ) → 811 ≤ length (squeezed false (c ∷ text)) → lineRule ((c ∷ text) ++ (last ∷ rest)) ≡ cond (eqb c 35) blank noCall
+whole-line : (c : ℕ) (text : List ℕ) (last : ℕ) (rest : List ℕ) → tooLong ≤ length (squeezed false (c ∷ text)) → lineRule ((c ∷ text) ++ (last ∷ rest)) ≡ cond (eqb c 35) blank noCall
 unfolding lineRule
 whole-line c text last rest long =
     ap textRule (return-behind (c ∷ text) last rest)
-    ∙ told-by-first c (text ++ withoutReturn (last ∷ rest)) (none-called ((c ∷ text) ++ withoutReturn (last ∷ rest)) (omega (arith, long, longer false (c ∷ text) (withoutReturn (last ∷ rest)))))
+    ∙ by-first-byte c (text ++ withoutReturn (last ∷ rest)) (none-called ((c ∷ text) ++ withoutReturn (last ∷ rest)) (omega (arith, long, longer false (c ∷ text) (withoutReturn (last ∷ rest)))))
 
 cut-line : (front : List ℕ) (last : ℕ) (rest : List ℕ) → longest ≤ length (squeezed false front) → lineRule (take longest (squeezed false front)) ≡ lineRule (front ++ (last ∷ rest))
 unfolding squeezed

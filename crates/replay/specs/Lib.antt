@@ -1,6 +1,5 @@
 pub mod RunLaws
-pub mod Short
+pub mod InputContracts
 pub mod ShortLaws
-pub mod LengthLaws
 pub mod CutLaws
 pub mod SqueezeLaws

@@ -6,13 +6,13 @@ use native.Mathlib.Omega.{arith}
 use lib.ListN.{length}
 use Rattle.frame.specs.declared.Written.{Written}
 use Rattle.frame.specs.declared.Written.the-variants.{Bytes}
-use Rattle.desk.specs.Meaning.{endBy}
+use Rattle.replay_desk.specs.DeskContracts.{endBy}
 use Rattle.replay.specs.declared.State.{State}
 
-pub ended : {w : Written} {size : ℕ} (at room : ℕ) → w ≡ Bytes size → endBy at w ≤ room → at + size ≤ room
-ended at room e h = subst (λ (w : Written). endBy at w ≤ room) e h
+pub line-end : {w : Written} {size : ℕ} (at room : ℕ) → w ≡ Bytes size → endBy at w ≤ room → at + size ≤ room
+line-end at room e h = subst (λ (w : Written). endBy at w ≤ room) e h
 
--- the lines of a text are answered up to a place, from which the next newline is at another
+-- the lines of a text are answered up to an offset, from which the next newline is at another
 pub record Answering (text out₀ out : List ℕ) (filled at end : ℕ) : Type 0 where
   pub ordered : at ≤ end
   pub within : end ≤ length text
@@ -28,12 +28,16 @@ answered-more past a newline found put stays =
       same = sym stays ∙ a .same;
     }
 
+-- the size of either buffer
+abbrev pub bufferSize : ℕ
+bufferSize = 65536
+
 -- between two turns: there is room to read into, and all answers are written
 pub record Standing (state : State) (buffer output : List ℕ) : Type 0 where
-  pub held : state .held < 65536
+  pub held : state .held < bufferSize
   pub filled : state .run .filled ≡ 0
-  pub readable : length buffer ≡ 65536
-  pub writable : length output ≡ 65536
+  pub readable : length buffer ≡ bufferSize
+  pub writable : length output ≡ bufferSize
 
 pub turned : {state : State} {b out : List ℕ} (next : State) {b₁ out₁ : List ℕ} → Standing state b out → next .held < length b₁ → next .run .filled ≡ 0 → length b ≡ length b₁ → length out ≡ length out₁ → Standing next b₁ out₁
 turned next s h f kept kept₁ =

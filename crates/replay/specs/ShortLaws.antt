@@ -7,11 +7,11 @@ use native.Mathlib.Omega.{arith}
 use lib.Dec.{eqb}
 use lib.ListN.{length, take}
 use Rattle.report.specs.Sizes.{byte}
-use Rattle.line.specs.Words.{space, wordsAfter, words}
+use Rattle.replay_line.specs.LineWords.{space, wordsAfter, words}
 use borrow.Author.Tests.{ne-eqb}
-use Rattle.line.specs.Commands.{blank}
-use Rattle.line.specs.Lines.{callOf, withoutReturn, textRule, lineRule}
-use Rattle.replay.specs.Short.{squeezed}
+use Rattle.replay_line.specs.Commands.{blank}
+use Rattle.replay_line.specs.LineCalls.{callOf, withoutReturn, textRule, lineRule}
+use Rattle.replay.specs.InputContracts.{squeezed}
 
 -- the words are the same: after no space, whatever is read of a word; after a space, where nothing is
 record SameWords (text rest : List ℕ) : Type 0 where
@@ -62,7 +62,7 @@ return-behind (c ∷ d ∷ front) last rest =
     one-before c d (front ++ (last ∷ rest))
     ∙ ap (λ (l : List ℕ). c ∷ l) (return-behind (d ∷ front) last rest)
 
--- a text that is not empty is told by its first byte and its words
+-- the first byte and the words of a text that is not empty decide
 pub nonempty-text : (c : ℕ) (text : List ℕ) → textRule (c ∷ text) ≡ cond (eqb c 35) blank (callOf (words (c ∷ text)))
 unfolding textRule
 nonempty-text c text = simp (ne-eqb (length (c ∷ text)) 0 (λ e. omega arith))

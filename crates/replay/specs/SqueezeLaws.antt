@@ -1,4 +1,4 @@
--- Laws of squeezing in place: so many bytes are kept of so many that were read.
+-- Laws of squeezing in place: `kept` bytes are left of the first i.
 use Prim.Native.Nat.{ℕ, suc, _+_, _-_, _≤_, _<_}
 use mathlib.Core.Path.{_≡_, refl, sym, _∙_, ap, subst}
 use mathlib.Core.Bool.{Bool, true, false, cond}
@@ -9,9 +9,9 @@ use lib.Dec.{eqb, ltb}
 use lib.ListN.{length, take, drop, set, getD, length-set, drop-of-length-le}
 use lib.Seq.{length-take-le, take-take, drop-cons, getD-take, take-suc-set, drop-set-lt}
 use borrow.Author.Tests.{lt-ltb, le-ltb, lt-leb, le-leb}
-use Rattle.line.specs.Words.{space}
-use Rattle.replay.specs.LengthLaws.{both-true}
-use Rattle.replay.specs.Short.{isSpare, squeezed, squeezedLine, longest, isCut, shortened, heldText, heldCut}
+use Rattle.replay_line.specs.LineWords.{space}
+use Rattle.report.specs.ChoicesLaws.{both}
+use Rattle.replay.specs.InputContracts.{isSpare, squeezed, squeezedLine, longest, isCut, shortened, heldText, heldCut}
 
 pub record Squeezing (b₀ b : List ℕ) (size kept i : ℕ) (after : Bool) : Type 0 where
   pub so : take kept b ++ squeezed after (drop i (take size b₀)) ≡ squeezed false (take size b₀)
@@ -61,7 +61,7 @@ module _ {b₀ b : List ℕ} {size kept i : ℕ} {after : Bool} (s : Squeezing b
 
     spare : isSpare c after ≡ true → Squeezing b₀ b size kept (i + 1) (eqb c space)
     spare e =
-        let tests = both-true (eqb c space) after e in
+        let tests = both (eqb c space) after e in
         record {
           so =
               ap (λ (l : List ℕ). take kept b ++ squeezed (eqb c space) l) next-byte
@@ -119,7 +119,7 @@ module _ {b₀ b : List ℕ} {size kept i : ℕ} {after : Bool} (s : Squeezing b
         let end : i ≡ size = omega (arith, out, s .within) in
         sym (ap (λ (k : ℕ). drop k b) end) ∙ s .behind ∙ ap (λ (k : ℕ). drop k b₀) end
 
--- what is held while there is room behind it
+-- what is held while there is room after it
 pub held-whole : (held : ℕ) (b : List ℕ) → held < length b → (held < length b) × ((take held b ≡ heldText held b) × (false ≡ heldCut held b))
 held-whole held b h =
     let test = lt-ltb held (length b) h in

@@ -9,7 +9,7 @@ use station::Station;
 
 pub const NEWLINE: u8 = 10;
 
-// Where a run stands: its station, how many lines it has answered, how much of the output buffer is filled, and whether all that was written so far could be.
+// The state of a run: its station, the number of lines answered, how much of the output buffer is filled, and whether all that was written so far could be.
 pub struct Run {
     pub station: Station,
     pub number: usize,
@@ -20,7 +20,7 @@ pub struct Run {
 // Writes what the output buffer holds.
 pub(crate) fn flush(run: Run, output: &[u8]) -> Run
     requires { ⌜ run .filled ≤ length (now output) ⌝ }
-    ensures { λ r. ⌜ r .filled ≡ 0 ⌝ }
+    ensures filled { λ r. ⌜ r .filled ≡ 0 ⌝ }
 {
     let station = run.station;
     let filled = run.filled;
@@ -40,9 +40,9 @@ pub(crate) fn flush(run: Run, output: &[u8]) -> Run
 // Makes room for any answer.
 fn make_room(run: Run, output: &[u8]) -> Run
     requires { ⌜ run .filled ≤ length (now output) ⌝ }
-    ensures { λ r. ⌜ r .filled ≤ length (now (output .entry)) ⌝ }
+    ensures filled { λ r. ⌜ r .filled ≤ length (now (output .entry)) ⌝ }
 {
-    if output.len() - run.filled < desk::ANSWER {
+    if output.len() - run.filled < replay_desk::ANSWER {
         return flush(run, output);
     }
     run
@@ -51,13 +51,13 @@ fn make_room(run: Run, output: &[u8]) -> Run
 // Answers the next line.
 pub(crate) fn answer(run: Run, line: &[u8], output: &mut [u8]) -> Run
     requires { ⌜ run .filled ≤ length (now output) ⌝ }
-    ensures { λ r. ⌜ r .filled ≤ length (now (output .exit)) ⌝ }
+    ensures filled { λ r. ⌜ r .filled ≤ length (now (output .exit)) ⌝ }
 {
     let ready = make_room(run, output);
     let station = ready.station;
     let filled = ready.filled;
     let number = std::num::wrapping_add_usize(ready.number, 1);
-    let answered = desk::answer_line(station, number, line, output, filled);
+    let answered = replay_desk::answer_line(station, number, line, output, filled);
     let answer = answered.answer;
     let after = answered.station;
     let end = match answer {
@@ -81,8 +81,8 @@ pub struct Answered {
 // Answers every whole line.
 pub(crate) fn answer_lines(run: Run, text: &[u8], output: &mut [u8]) -> Answered
     requires { ⌜ run .filled ≤ length (now output) ⌝ }
-    ensures { λ r. ⌜ r .used ≤ length (now (text .entry)) ⌝ }
-    ensures { λ r. ⌜ r .run .filled ≤ length (now (output .exit)) ⌝ }
+    ensures used { λ r. ⌜ r .used ≤ length (now (text .entry)) ⌝ }
+    ensures filled { λ r. ⌜ r .run .filled ≤ length (now (output .exit)) ⌝ }
 {
     let mut next = run;
     let mut at = 0;

@@ -3,19 +3,19 @@ ghost use Prim.Native.Nat.{_+_, _-_, _≤_, _<_};
 ghost use mathlib.Core.Path.{_≡_};
 ghost use mathlib.Core.Bool.{false, cond};
 ghost use lib.ListN.{length, take, drop, set};
-ghost use Rattle.replay.specs.Short.{isSpare, squeezed, longest, heldText, heldCut};
+ghost use Rattle.replay.specs.InputContracts.{isSpare, squeezed, longest, heldText, heldCut};
 
 const SPACE: u8 = 32;
 
 // With one space between its words no call is longer.
 pub const LONGEST: usize = 1024;
 
-// Moves the bytes between two places down to another place, and answers where they end.
+// Moves the bytes between two offsets down to another one, and answers where they end.
 pub(crate) fn move_down(buffer: &mut [u8], to: usize, from: usize, end: usize) -> usize
     requires order { ⌜ to ≤ from ⌝ }
     requires part { ⌜ from ≤ end ⌝ }
     requires within { ⌜ end ≤ length (now buffer) ⌝ }
-    ensures { λ r. ⌜ r ≡ to + (end - from) ⌝ }
+    ensures end { λ r. ⌜ r ≡ to + (end - from) ⌝ }
 {
     let mut next = to;
     let mut i = from;
@@ -37,7 +37,7 @@ fn is_spare(byte: u8, after: bool) -> bool
     false
 }
 
-// Puts a byte at a place unless it is spare, and answers the place after it.
+// Puts a byte at an offset unless it is spare, and answers the offset after it.
 fn put_unless(spare: bool, buffer: &mut [u8], at: usize, byte: u8) -> usize
     requires { ⌜ at < length (now buffer) ⌝ }
     ensures put { λ _. ⌜ now (buffer .exit) ≡ cond spare (now (buffer .entry)) (set (now (buffer .entry)) at byte) ⌝ }
@@ -50,7 +50,7 @@ fn put_unless(spare: bool, buffer: &mut [u8], at: usize, byte: u8) -> usize
     at + 1
 }
 
-// Makes one space of every run of spaces in the buffer's first bytes, and answers how many of them are left.
+// Makes one space of every run of spaces in the buffer's first bytes, and answers the number of bytes left.
 fn squeeze(buffer: &mut [u8], size: usize) -> usize
     requires { ⌜ size ≤ length (now buffer) ⌝ }
     ensures front { λ r. ⌜ take r (now (buffer .exit)) ≡ squeezed false (take size (now (buffer .entry))) ⌝ }
@@ -75,7 +75,7 @@ pub struct Held {
     pub cut: bool,
 }
 
-// Makes room behind what is held. A line that fills the buffer has its spaces squeezed; one that is still longer than any call is cut. Either way it stays the call that it is.
+// Makes room after what is held. A line that fills the buffer has its spaces squeezed; one that is still longer than any call is cut. Either way it stays the call that it is.
 pub(crate) fn hold(buffer: &mut [u8], held: usize) -> Held
     requires held { ⌜ held ≤ length (now buffer) ⌝ }
     requires room { ⌜ longest < length (now buffer) ⌝ }

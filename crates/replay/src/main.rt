@@ -2,6 +2,7 @@
 ghost use Prim.Native.Nat.{_<_, _≤_};
 ghost use mathlib.Core.Path.{_≡_};
 ghost use lib.ListN.{length};
+ghost use Rattle.replay.specs.InputContracts.{longest};
 use answers::Run;
 use bytes::scan;
 use libc::STDIN_FILENO;
@@ -10,9 +11,10 @@ use station::Station;
 mod answers;
 mod input;
 
+// The size of the input buffer and of the output buffer.
 const BUFFER: usize = 65536;
 
-// What is read and not yet answered stands in the first `held` bytes of the buffer. Where it is cut, what follows up to the end of its line is passed over.
+// What is read and not yet answered is in the first `held` bytes of the buffer. Where it is cut, what follows up to the end of its line is passed over.
 struct State {
     run: Run,
     held: usize,
@@ -20,22 +22,23 @@ struct State {
     going: bool,
 }
 
-// The end of the script, where a last line may lack its newline.
-fn end(run: Run, rest: &[u8], output: &mut [u8]) -> Run
-    requires { ⌜ run .filled ≤ length (now output) ⌝ }
+// The end of the script, where a last line may lack its newline: it is in the first `held` bytes of the buffer.
+fn end(run: Run, buffer: &[u8], held: usize, output: &mut [u8]) -> Run
+    requires held { ⌜ held ≤ length (now buffer) ⌝ }
+    requires filled { ⌜ run .filled ≤ length (now output) ⌝ }
     ensures { λ r. ⌜ r .filled ≡ 0 ⌝ }
 {
-    if rest.len() == 0 {
+    if held == 0 {
         return answers::flush(run, output);
     }
-    let run = answers::answer(run, rest, output);
+    let run = answers::answer(run, &buffer[..held], output);
     answers::flush(run, output)
 }
 
 // Answers the lines that end within the buffer's first `size` bytes, and holds the rest.
 fn advance(run: Run, buffer: &mut [u8], size: usize, output: &mut [u8]) -> State
     requires size { ⌜ size ≤ length (now buffer) ⌝ }
-    requires room { ⌜ 1025 < length (now buffer) ⌝ }
+    requires room { ⌜ longest < length (now buffer) ⌝ }
     requires filled { ⌜ run .filled ≤ length (now output) ⌝ }
     ensures held { λ r. ⌜ r .held < length (now (buffer .exit)) ⌝ }
     ensures filled { λ r. ⌜ r .run .filled ≡ 0 ⌝ }
@@ -56,7 +59,7 @@ fn advance(run: Run, buffer: &mut [u8], size: usize, output: &mut [u8]) -> State
 // Reads once, and answers what came.
 fn turn(state: State, fd: i32, name: &[u8], buffer: &mut [u8], output: &mut [u8]) -> State
     requires held { ⌜ state .held < length (now buffer) ⌝ }
-    requires room { ⌜ 1025 < length (now buffer) ⌝ }
+    requires room { ⌜ longest < length (now buffer) ⌝ }
     requires filled { ⌜ state .run .filled ≡ 0 ⌝ }
     ensures held { λ r. ⌜ r .held < length (now (buffer .exit)) ⌝ }
     ensures filled { λ r. ⌜ r .run .filled ≡ 0 ⌝ }
@@ -75,7 +78,7 @@ fn turn(state: State, fd: i32, name: &[u8], buffer: &mut [u8], output: &mut [u8]
     }
     let count = io::count(got, &buffer[held..]);
     if count == 0 {
-        let run = end(run, &buffer[..held], output);
+        let run = end(run, buffer, held, output);
         return State {
             run,
             held,

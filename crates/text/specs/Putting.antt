@@ -1,10 +1,11 @@
--- Text put into a lent buffer from a place on, as much of it as fits.
-use Prim.Native.Nat.{ℕ, _+_, _-_}
+-- Text put into a lent buffer from an offset on, as much of it as fits.
+use Prim.Native.Nat.{ℕ, _+_, _-_, _≤_}
+use mathlib.Core.Path.{_≡_}
 use mathlib.Core.List.{List}
 use lib.ListN.{length, take}
 use Rattle.frame.specs.Writing.{pasted}
 
--- what putting a text leaves: the place after it, and the lent buffer
+-- what putting a text leaves: the offset after it, and the lent buffer
 pub record Filled : Type 0 where
   pub next : ℕ
   pub lent : List ℕ
@@ -12,11 +13,16 @@ pub record Filled : Type 0 where
 abbrev pub filled : ℕ → List ℕ → Filled
 filled next lent = record { next = next; lent = lent }
 
--- what fits of a text between the place and the buffer's end: all of it where there is room
+-- what fits of a text between the offset and the buffer's end: all of it where there is room
 abbrev pub fitting : List ℕ → ℕ → List ℕ → List ℕ
 fitting text at lent = take (length lent - at) text
 
--- what fits stands at the place; the bytes before and after it keep their values
+-- what fits is at the offset; the bytes before and after it keep their values
 unfoldable pub putRule : List ℕ → ℕ → List ℕ → Filled
 putRule text at lent =
     filled (at + length (fitting text at lent)) (pasted (fitting text at lent) at lent)
+
+-- a text is put at an offset of the buffer b, and leaves the next offset and the buffer b₁; it is no longer than `most`
+pub record Puts (most : ℕ) (text : List ℕ) (at : ℕ) (b : List ℕ) (next : ℕ) (b₁ : List ℕ) : Type 0 where
+  pub put : filled next b₁ ≡ putRule text at b
+  pub short : length text ≤ most

@@ -1,17 +1,17 @@
 -- Laws of putting text: nothing, one byte, one text after another, and a whole text where there is room.
 use Prim.Native.Nat.{ℕ, zero, suc, _+_, _-_, _≤_, _<_}
-use mathlib.Core.Path.{_≡_, sym, _∙_, ap}
+use mathlib.Core.Path.{_≡_, sym, _∙_, ap, subst}
 use mathlib.Core.List.{List, [], _∷_, _++_, append-assoc}
-use native.Mathlib.Nat.{add-zero, add-assoc}
+use native.Mathlib.Nat.{add-zero, add-assoc, le-refl}
 use native.Mathlib.Numerals.{add-one}
 use native.Mathlib.Omega.{arith}
 use native.Mathlib.Decide.{decLe}
 use lib.ListN.{length, take, drop, set, length-append, length-take, length-drop, take-append-drop}
 use lib.Seq.{take-nil, take-all, take-at, drop-append-add, drop-drop, set-split, length-take-le}
 use Rattle.frame.specs.Writing.{pasted}
-use Rattle.text.specs.Putting.{Filled, filled, fitting, putRule}
+use Rattle.text.specs.Putting.{Filled, filled, fitting, putRule, Puts}
 
--- no text leaves all as it stood
+-- no text leaves all as it was
 pasted-nothing : (at : ℕ) (b : List ℕ) → pasted [] at b ≡ b
 pasted-nothing at b = ap (λ (n : ℕ). take at b ++ drop n b) (add-zero at) ∙ take-append-drop at b
 
@@ -23,7 +23,7 @@ none-put : (text : List ℕ) (at : ℕ) (b : List ℕ) → fitting text at b ≡
 none-put text at b e =
     sym (pasted-part text [] at b e ∙ ap (λ (n : ℕ). filled n (pasted [] at b)) (add-zero at) ∙ ap (filled at) (pasted-nothing at b))
 
-pub nothing : (at : ℕ) (b : List ℕ) → filled at b ≡ putRule [] at b
+nothing : (at : ℕ) (b : List ℕ) → filled at b ≡ putRule [] at b
 nothing at b = none-put [] at b (take-nil (length b - at))
 
 -- past the end nothing fits
@@ -33,7 +33,7 @@ past-end text at b h =
     none-put text at b (ap (λ (n : ℕ). take n text) e)
 
 -- a whole text, where there is room
-pub whole : (text : List ℕ) (at : ℕ) (b : List ℕ) → at + length text ≤ length b → putRule text at b ≡ filled (at + length text) (pasted text at b)
+whole : (text : List ℕ) (at : ℕ) (b : List ℕ) → at + length text ≤ length b → putRule text at b ≡ filled (at + length text) (pasted text at b)
 whole text at b h = pasted-part text text at b (take-all (length b - at) text (omega arith))
 
 pub one-byte : (x at : ℕ) (b : List ℕ) → at < length b → filled (at + 1) (set b at x) ≡ putRule (x ∷ []) at b
@@ -51,7 +51,7 @@ module _ (s : List ℕ) (at : ℕ) (b : List ℕ) (room : at + length s ≤ leng
   before : length (take at b ++ s) ≡ at + length s
   before = length-append (take at b) s ∙ ap (λ (n : ℕ). n + length s) (length-take-le at b (omega arith))
 
-  pub length-pasted : length (pasted s at b) ≡ length b
+  length-pasted : length (pasted s at b) ≡ length b
   length-pasted =
       omega (arith, length-append (take at b) (s ++ drop (at + length s) b), length-append s (drop (at + length s) b), length-drop (at + length s) b, length-take-le at b (omega arith))
 
@@ -69,11 +69,11 @@ module _ (s : List ℕ) (at : ℕ) (b : List ℕ) (room : at + length s ≤ leng
       ∙ drop-drop n (at + length s) b
       ∙ ap (λ (k : ℕ). drop k b) (add-assoc at (length s) n)
 
-  pub pasted-pasted : (t : List ℕ) → pasted t (at + length s) (pasted s at b) ≡ pasted (s ++ t) at b
+  pasted-pasted : (t : List ℕ) → pasted t (at + length s) (pasted s at b) ≡ pasted (s ++ t) at b
   pasted-pasted t = simp (front, back, append-assoc, length-append)
 
 -- one text after another
-pub joined : (s t : List ℕ) (at : ℕ) (b : List ℕ) → putRule t (putRule s at b .next) (putRule s at b .lent) ≡ putRule (s ++ t) at b
+joined : (s t : List ℕ) (at : ℕ) (b : List ℕ) → putRule t (putRule s at b .next) (putRule s at b .lent) ≡ putRule (s ++ t) at b
 unfolding putRule
 joined s t at b = by (decLe at (length b))
   where
@@ -96,25 +96,6 @@ joined s t at b = by (decLe at (length b))
         let out : length b ≤ at = omega arith in
         ap (λ (f : Filled). putRule t (f .next) (f .lent)) (sym (past-end s at b out)) ∙ sym (past-end t at b out) ∙ past-end (s ++ t) at b out
 
--- the same, of what two calls left
-pub after : {m n : ℕ} {b₁ b₂ : List ℕ} (s t : List ℕ) (at : ℕ) (b : List ℕ) → filled m b₁ ≡ putRule s at b → filled n b₂ ≡ putRule t m b₁ → filled n b₂ ≡ putRule (s ++ t) at b
-after s t at b first second = second ∙ ap (λ (f : Filled). putRule t (f .next) (f .lent)) first ∙ joined s t at b
-
--- texts put one after another, the first at `at`
-pub data Puts : List (List ℕ) → ℕ → List ℕ → ℕ → List ℕ → Type 0 where
-  last : {t : List ℕ} {at next : ℕ} {b b₁ : List ℕ} → filled next b₁ ≡ putRule t at b → Puts (t ∷ []) at b next b₁
-  then : {t u : List ℕ} {ts : List (List ℕ)} {at m next : ℕ} {b b₁ b₂ : List ℕ} → filled m b₁ ≡ putRule t at b → Puts (u ∷ ts) m b₁ next b₂ → Puts (t ∷ u ∷ ts) at b next b₂
-
--- as one text
-abbrev pub oneText : List (List ℕ) → List ℕ
-oneText [] = []
-oneText (t ∷ []) = t
-oneText (t ∷ u ∷ ts) = t ++ oneText (u ∷ ts)
-
-pub all-put : {ts : List (List ℕ)} {at next : ℕ} {b b₁ : List ℕ} → Puts ts at b next b₁ → filled next b₁ ≡ putRule (oneText ts) at b
-all-put (last so) = so
-all-put (then so rest) = after _ _ _ _ so (all-put rest)
-
 -- the buffer keeps its length
 length-lent : (text : List ℕ) (at : ℕ) (b : List ℕ) → length (putRule text at b .lent) ≡ length b
 unfolding putRule
@@ -129,19 +110,29 @@ length-lent text at b = by (decLe at (length b))
         let out : length b ≤ at = omega arith in
         ap (λ (f : Filled). length (f .lent)) (sym (past-end text at b out))
 
-pub length-put : {next : ℕ} {b₁ : List ℕ} (text : List ℕ) (at : ℕ) (b : List ℕ) → filled next b₁ ≡ putRule text at b → length b₁ ≡ length b
-length-put text at b so = ap (λ (f : Filled). length (f .lent)) so ∙ length-lent text at b
+-- a text put, with the length that it has at most
+module _ {at : ℕ} {b : List ℕ} {next : ℕ} {b₁ : List ℕ} where
+  pub at-most : {m : ℕ} {text : List ℕ} (most : ℕ) → m ≤ most → Puts m text at b next b₁ → Puts most text at b next b₁
+  at-most most h p = record { put = p .put; short = omega (arith, p .short) }
 
--- where there is room, what a call left is the whole text at its place
-module _ {next : ℕ} {b₁ : List ℕ} (text : List ℕ) (at : ℕ) (b : List ℕ) (room : at + length text ≤ length b) (so : filled next b₁ ≡ putRule text at b) where
-  pub whole-next : next ≡ at + length text
-  whole-next = ap (λ (f : Filled). f .next) (so ∙ whole text at b room)
+  pub same-text : {m : ℕ} {s t : List ℕ} → s ≡ t → Puts m s at b next b₁ → Puts m t at b next b₁
+  same-text {m} e p = subst (λ (l : List ℕ). Puts m l at b next b₁) e p
 
-  pub whole-lent : b₁ ≡ pasted text at b
-  whole-lent = ap (λ (f : Filled). f .lent) (so ∙ whole text at b room)
+  module _ {most : ℕ} {text : List ℕ} (p : Puts most text at b next b₁) where
+    pub kept-length : length b₁ ≡ length b
+    kept-length = ap (λ (f : Filled). length (f .lent)) (p .put) ∙ length-lent text at b
 
--- and at the front, all that stands before the next place is the text
-pub front-text : {next : ℕ} {b₁ : List ℕ} (text b : List ℕ) → 0 + length text ≤ length b → filled next b₁ ≡ putRule text 0 b → take next b₁ ≡ text
-front-text {next} {b₁} text b room so =
-    let n : length text ≡ next = omega (arith, whole-next text 0 b room so) in
-    ap (take next) (whole-lent text 0 b room so) ∙ take-at text (drop (0 + length text) b) next n
+    -- where there is room, it is put whole
+    pub whole-put : at + most ≤ length b → filled next b₁ ≡ filled (at + length text) (pasted text at b)
+    whole-put room = p .put ∙ whole text at b (omega (arith, p .short))
+
+  -- one text after another: a list of texts is put by this law, once for each
+  pub then-put : {m k : ℕ} {s t : List ℕ} {n₂ : ℕ} {b₂ : List ℕ} → Puts m s at b next b₁ → Puts k t next b₁ n₂ b₂ → Puts (m + k) (s ++ t) at b n₂ b₂
+  then-put {m} {k} {s} {t} p q =
+      record {
+        put = q .put ∙ ap (λ (f : Filled). putRule t (f .next) (f .lent)) (p .put) ∙ joined s t at b;
+        short = omega (arith, length-append s t, p .short, q .short);
+      }
+
+pub nothing-put : (at : ℕ) (b : List ℕ) → Puts 0 [] at b at b
+nothing-put at b = record { put = nothing at b; short = le-refl 0 }

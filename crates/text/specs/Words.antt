@@ -21,7 +21,7 @@ unfoldable pub hex : (width : ℕ) → ℕ → List ℕ
 hex zero n = []
 hex (suc width) n = hex width (n / 16) ++ (digit (n % 16) ∷ [])
 
--- decimal without a leading zero, in at most so many digits
+-- decimal without a leading zero, in at most `most` digits
 unfoldable pub decimalIn : (most : ℕ) → ℕ → List ℕ
 decimalIn zero n = []
 decimalIn (suc most) n =

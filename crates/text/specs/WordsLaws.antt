@@ -46,7 +46,7 @@ unfolding decimal decimalIn
 decimal-more n h =
     simp (le-ltb n 10 h) (ap (λ (l : List ℕ). l ++ (digit (n % 10) ∷ [])) (enough n (suc (n / 10)) (n / 10) (omega arith) (omega arith)))
 
--- a number below 10 to the power of so many has at most so many digits
+-- a number below a power of 10 has at most as many digits as the power says
 pub length-decimal : (more n : ℕ) → n < 10 ^ suc more → length (decimal n) ≤ suc more
 length-decimal zero n h = rw (decimal-last n h) (omega arith)
 length-decimal (suc more) n h = by (ltb n 10) refl (length-decimal more (n / 10))

@@ -1,9 +1,21 @@
-// Numbers and words as bytes of text, put into a lent buffer from a place on.
-ghost use mathlib.Core.Path.{_≡_};
+// Words, numbers and what a port holds, as bytes of text put into a lent buffer from an offset on.
 ghost use mathlib.Core.List.{[], _∷_};
 ghost use Prim.Native.Nat.{_<_};
+ghost use lib.ListN.{length};
 ghost use Rattle.text.specs.Words.{digit, hex, decimal};
-ghost use Rattle.text.specs.Putting.{filled, putRule};
+ghost use Rattle.text.specs.Putting.{Puts};
+ghost use Rattle.text.specs.Texts.{numberMost, byteMost, linkText, linkMost, versionText, versionMost, batteryText, batteryMost};
+use port::Battery;
+use port::Version;
+
+// The longest text of a byte in decimal, of a link, of a version and of a battery.
+pub const BYTE_MOST: usize = 3;
+
+pub const LINK_MOST: usize = 4;
+
+pub const VERSION_MOST: usize = 2 * BYTE_MOST + 1;
+
+pub const BATTERY_MOST: usize = 3 * BYTE_MOST + 2;
 
 const DIGITS: [u8; 16] = [
     b'0',
@@ -24,9 +36,9 @@ const DIGITS: [u8; 16] = [
     b'F',
 ];
 
-// One byte. Every function here puts its text, or as much of it as fits, and answers the place after it.
+// One byte. Every function here puts its text, or as much of it as fits, and answers the offset after it.
 pub fn put_byte(buffer: &mut [u8], at: usize, byte: u8) -> usize
-    ensures { λ r. ⌜ filled r (now (buffer .exit)) ≡ putRule (byte ∷ []) at (now (buffer .entry)) ⌝ }
+    ensures put { λ r. ⌜ Puts 1 (byte ∷ []) at (now (buffer .entry)) r (now (buffer .exit)) ⌝ }
 {
     if at < buffer.len() {
         buffer[at] = byte;
@@ -37,7 +49,7 @@ pub fn put_byte(buffer: &mut [u8], at: usize, byte: u8) -> usize
 
 // The bytes of a word.
 pub fn put_word(buffer: &mut [u8], at: usize, word: &[u8]) -> usize
-    ensures { λ r. ⌜ filled r (now (buffer .exit)) ≡ putRule (now (word .entry)) at (now (buffer .entry)) ⌝ }
+    ensures put { λ r. ⌜ Puts (length (now (word .entry))) (now (word .entry)) at (now (buffer .entry)) r (now (buffer .exit)) ⌝ }
 {
     let mut next = at;
     let mut i = 0;
@@ -50,14 +62,14 @@ pub fn put_word(buffer: &mut [u8], at: usize, word: &[u8]) -> usize
 
 fn put_digit(buffer: &mut [u8], at: usize, n: usize) -> usize
     requires { ⌜ n < 16 ⌝ }
-    ensures { λ r. ⌜ filled r (now (buffer .exit)) ≡ putRule (digit n ∷ []) at (now (buffer .entry)) ⌝ }
+    ensures { λ r. ⌜ Puts 1 (digit n ∷ []) at (now (buffer .entry)) r (now (buffer .exit)) ⌝ }
 {
     put_byte(buffer, at, DIGITS[n])
 }
 
 // Hexadecimal in capitals: the last `width` digits.
 pub fn put_hex(buffer: &mut [u8], at: usize, width: u8, n: usize) -> usize
-    ensures { λ r. ⌜ filled r (now (buffer .exit)) ≡ putRule (hex width n) at (now (buffer .entry)) ⌝ }
+    ensures put { λ r. ⌜ Puts width (hex width n) at (now (buffer .entry)) r (now (buffer .exit)) ⌝ }
 {
     if width == 0 {
         return at;
@@ -68,11 +80,55 @@ pub fn put_hex(buffer: &mut [u8], at: usize, width: u8, n: usize) -> usize
 
 // Decimal, without a leading zero.
 pub fn put_decimal(buffer: &mut [u8], at: usize, n: usize) -> usize
-    ensures { λ r. ⌜ filled r (now (buffer .exit)) ≡ putRule (decimal n) at (now (buffer .entry)) ⌝ }
+    ensures put { λ r. ⌜ Puts numberMost (decimal n) at (now (buffer .entry)) r (now (buffer .exit)) ⌝ }
 {
     if n < 10 {
         return put_digit(buffer, at, n);
     }
     let end = put_decimal(buffer, at, n / 10);
     put_digit(buffer, end, n % 10)
+}
+
+// A byte in decimal.
+pub fn put_small(buffer: &mut [u8], at: usize, n: u8) -> usize
+    ensures put { λ r. ⌜ Puts byteMost (decimal n) at (now (buffer .entry)) r (now (buffer .exit)) ⌝ }
+{
+    put_decimal(buffer, at, n as usize)
+}
+
+pub fn put_link(buffer: &mut [u8], at: usize, up: bool) -> usize
+    ensures put { λ r. ⌜ Puts linkMost (linkText up) at (now (buffer .entry)) r (now (buffer .exit)) ⌝ }
+{
+    if up {
+        return put_word(buffer, at, b"up");
+    }
+    put_word(buffer, at, b"down")
+}
+
+pub fn put_version(buffer: &mut [u8], at: usize, version: Version) -> usize
+    ensures put { λ r. ⌜ Puts versionMost (versionText version) at (now (buffer .entry)) r (now (buffer .exit)) ⌝ }
+{
+    match version {
+        Version::Unknown => put_byte(buffer, at, b'-'),
+        Version::Known(major, minor) => {
+            let at = put_small(buffer, at, major);
+            let at = put_byte(buffer, at, b'.');
+            put_small(buffer, at, minor)
+        }
+    }
+}
+
+pub fn put_battery(buffer: &mut [u8], at: usize, battery: Battery) -> usize
+    ensures put { λ r. ⌜ Puts batteryMost (batteryText battery) at (now (buffer .entry)) r (now (buffer .exit)) ⌝ }
+{
+    match battery {
+        Battery::Unknown => put_byte(buffer, at, b'-'),
+        Battery::Known(level, next, status) => {
+            let at = put_small(buffer, at, level);
+            let at = put_byte(buffer, at, b',');
+            let at = put_small(buffer, at, next);
+            let at = put_byte(buffer, at, b',');
+            put_small(buffer, at, status)
+        }
+    }
 }

@@ -1,47 +1,33 @@
--- `listing::put_lines` meets its contract. The loop's state is `Listed`: the lines of the first i places are put.
-use Prim.Native.Nat.{_-_}
+-- `listing::put_lines` meets its contract. The loop puts the text of each device.
+use Prim.Native.Nat.{ℕ, _+_, _-_}
 use native.Mathlib.Omega.{arith}
-use Rattle.text.specs.PuttingLaws.{length-put}
-use Rattle.listing.specs.Listing.{deviceCount}
-use Rattle.listing.specs.LinesLaws.{Listed, list-begun, list-more, list-done}
+use borrow.Author.Needs.{needs}
+use Rattle.text.specs.PuttingLaws.{kept-length}
+use Rattle.text.specs.EachLaws.{Putting, each-begun, each-put, each-counted}
+use Rattle.port.specs.declared.Port.{Port}
+use Rattle.report.specs.Ports.{deviceCount}
+use Rattle.listing.specs.Listing.{deviceText, lineMost, lines}
 use Rattle.listing.proofs.put_lines.Statement.{statement}
 use Rattle.listing.proofs.put_lines.Tie as tie
 
 abbrev Inv-loop : tie.InvT-loop
-Inv-loop buffer₀ at ports next₀ i₀ buffer next i = Listed ports at buffer₀ next buffer i
+Inv-loop buffer₀ at ports next₀ i₀ buffer next i = Putting (λ (position : ℕ) (p : Port). deviceText (position + 1) p) lineMost deviceCount ports at buffer₀ next buffer i
 
 abbrev μ-loop : tie.MeasureT-loop
 μ-loop buffer₀ at ports next₀ i₀ buffer next i = deviceCount - i
 
 loop-holds : tie.Need-loop-holds Inv-loop μ-loop
-loop-holds c = list-begun _ _ _
-
-mul-port : tie.Need-mul-port Inv-loop μ-loop
-mul-port c = omega arith
-
-array-copy-out-port : tie.Need-array-copy-out-port Inv-loop μ-loop
-array-copy-out-port c = omega arith
-
-add-put-device : tie.Need-add-put-device Inv-loop μ-loop
-add-put-device c = omega arith
-
-put-device-requires : tie.Need-put-device-requires Inv-loop μ-loop
-put-device-requires c κs = omega arith
-
-add-i : tie.Need-add-i Inv-loop μ-loop
-add-i c = omega arith
-
-loop-less : tie.Need-loop-less Inv-loop μ-loop
-loop-less c = omega arith
+loop-holds c = each-begun _ _ _ _ _ _
 
 loop-again : tie.Need-loop-again Inv-loop μ-loop
-loop-again c = list-more _ (c .before .before .before .before .before .before .loop .inv) (omega (arith, c .before .before .before .before .before .loop-test .taken)) (omega (arith, c .before .before .before .before .before .before .before .before .good .1 .1 .0 .1 .0 .1)) (c .before .before .put-device .ensures .0) (c .before .before .put-device .ensures .1)
+loop-again c = each-put (c .before .before .before .before .before .before .loop .inv) _ (omega (arith, c .before .before .before .before .before .loop-test .taken)) (omega (arith, c .before .before .before .before .before .before .before .before .good .1 .1 .0 .1 .0 .1)) (c .before .before .put-device .ensures)
 
 same-length : tie.Need-same-length Inv-loop μ-loop
-same-length c = length-put _ _ _ (c .before .loop .inv .so)
+same-length c = kept-length (c .before .loop .inv .so)
 
 returns : tie.Need-returns Inv-loop μ-loop
-returns c = list-done (c .before .loop .inv) (omega (arith, c .loop-test .left))
+unfolding lines
+returns c = each-counted (c .before .loop .inv) (omega (arith, c .loop-test .left))
 
 pub put-lines-spec : {M : Type 1} → statement M
 put-lines-spec =
@@ -50,12 +36,13 @@ put-lines-spec =
     Inv-loop
     μ-loop
     loop-holds
-    mul-port
-    array-copy-out-port
-    add-put-device
-    put-device-requires
-    add-i
-    loop-less
+    (λ c. omega arith)
+    (λ c. omega arith)
+    (λ c. omega arith)
+    (λ c. omega arith)
+    (λ c κs. search needs)
+    (λ c. omega arith)
+    (λ c. omega arith)
     loop-again
     same-length
     returns)

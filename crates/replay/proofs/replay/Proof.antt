@@ -5,7 +5,7 @@ use native.Mathlib.Omega.{arith}
 use lib.ListN.{length-replicate}
 use lib.Dec.{lit≤}
 use borrow.Author.Needs.{needs}
-use Rattle.replay.specs.RunLaws.{Standing, turned}
+use Rattle.replay.specs.RunLaws.{bufferSize, Standing, turned}
 use Rattle.replay.proofs.replay.Statement.{statement}
 use Rattle.replay.proofs.replay.Tie as tie
 
@@ -15,11 +15,8 @@ Inv-loop fd name buffer₀ output₀ state₀ turns₀ buffer output state turns
 abbrev μ-loop : tie.MeasureT-loop
 μ-loop fd name buffer₀ output₀ state₀ turns₀ buffer output state turns = turns
 
-new-requires : tie.Need-new-requires Inv-loop μ-loop
-new-requires c κs = search needs
-
 loop-holds : tie.Need-loop-holds Inv-loop μ-loop
-loop-holds c = record { held = lit≤ tt; filled = refl; readable = length-replicate {A = ℕ} 65536 0; writable = length-replicate {A = ℕ} 65536 0 }
+loop-holds c = record { held = lit≤ tt; filled = refl; readable = length-replicate {A = ℕ} bufferSize 0; writable = length-replicate {A = ℕ} bufferSize 0 }
 
 slice-aggregate-turn : tie.Need-slice-aggregate-turn Inv-loop μ-loop
 slice-aggregate-turn c = sym (c .before .before .before .loop .inv .readable)
@@ -29,12 +26,6 @@ slice-aggregate-turn-2 c = sym (c .before .before .before .before .loop .inv .wr
 
 turn-requires : tie.Need-turn-requires Inv-loop μ-loop
 turn-requires c κs = (omega (arith, c .before .before .before .before .loop .inv .held, c .before .before .before .before .loop .inv .readable), (omega (arith, c .before .before .before .before .loop .inv .readable), c .before .before .before .before .loop .inv .filled))
-
-sub-turns : tie.Need-sub-turns Inv-loop μ-loop
-sub-turns c = omega arith
-
-loop-less : tie.Need-loop-less Inv-loop μ-loop
-loop-less c = omega arith
 
 loop-again : tie.Need-loop-again Inv-loop μ-loop
 loop-again c = turned (c .before .before .turn .result) (c .before .before .before .before .before .before .before .loop .inv) (c .before .before .turn .ensures .0) (c .before .before .turn .ensures .1) (search needs) (search needs)
@@ -51,13 +42,13 @@ replay-spec =
     (tie.spec
     Inv-loop
     μ-loop
-    new-requires
+    (λ c κs. search needs)
     loop-holds
     slice-aggregate-turn
     slice-aggregate-turn-2
     turn-requires
-    sub-turns
-    loop-less
+    (λ c. omega arith)
+    (λ c. omega arith)
     loop-again
     returns
     returns-2)

@@ -1,4 +1,4 @@
--- `replay::input::move_down` meets its contract. The place written never runs before the place read.
+-- `replay::input::move_down` meets its contract. The offset written never runs before the offset read.
 use Prim.Native.Nat.{_+_, _-_, _≤_}
 use mathlib.Core.Path.{_≡_, refl}
 use native.Mathlib.Omega.{arith}

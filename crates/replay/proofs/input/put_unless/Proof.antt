@@ -6,17 +6,15 @@ use Rattle.replay.proofs.input.put_unless.Tie as tie
 returns : tie.Need-returns
 returns c = (simp (c .if1 .taken), simp (c .if1 .taken))
 
-slice-write-buffer : tie.Need-slice-write-buffer
-slice-write-buffer c = search needs
-
-add-result : tie.Need-add-result
-add-result c = search needs
-
-same-length : tie.Need-same-length
-same-length c = search needs
-
 returns-2 : tie.Need-returns-2
 returns-2 c = (simp (c .if1 .left), simp (c .if1 .left))
 
 pub put-unless-spec : {M : Type 1} → statement M
-put-unless-spec = tie.close (tie.spec returns slice-write-buffer add-result same-length returns-2)
+put-unless-spec =
+    tie.close
+    (tie.spec
+    returns
+    (λ c. search needs)
+    (λ c. search needs)
+    (λ c. search needs)
+    returns-2)

@@ -18,9 +18,6 @@ loop-holds c = squeeze-begun _ _
 slice-read-byte : tie.Need-slice-read-byte Inv-loop μ-loop
 slice-read-byte c = omega (arith, c .before .loop-test .taken, c .before .before .before .before .pre, c .before .before .loop .inv .same)
 
-is-spare-requires : tie.Need-is-spare-requires Inv-loop μ-loop
-is-spare-requires c κs = search needs
-
 put-unless-requires : tie.Need-put-unless-requires Inv-loop μ-loop
 put-unless-requires c κs = omega (arith, c .before .before .before .before .loop .inv .fewer, c .before .before .before .loop-test .taken, c .before .before .before .before .before .before .pre, c .before .before .before .before .loop .inv .same)
 
@@ -47,7 +44,7 @@ squeeze-spec =
     μ-loop
     loop-holds
     slice-read-byte
-    is-spare-requires
+    (λ c κs. search needs)
     put-unless-requires
     add-i
     loop-less

@@ -1,0 +1,3 @@
+pub mod LineAnswers
+pub mod DeskContracts
+pub mod ShownLaws

@@ -1,0 +1,93 @@
+-- docs/SCRIPTS.md, "Answers": what dump shows of every port.
+use Prim.Native.Nat.{ℕ, _+_, _*_}
+use mathlib.Core.List.{List, [], _∷_, _++_}
+use mathlib.Core.Bool.{cond}
+use Rattle.report.specs.declared.FeatureIndex.{FeatureIndex}
+use Rattle.port.specs.Places.{isEmpty}
+use Rattle.port.specs.Records.{featureCount, placeCount}
+use Rattle.port.specs.declared.Port.{Port}
+use Rattle.port.specs.declared.Request.{Request}
+use Rattle.text.specs.Words.{ascii, hex, decimal}
+use Rattle.text.specs.Texts.{each, byteMost, linkText, linkMost, versionText, versionMost, batteryText, batteryMost}
+use Rattle.station.specs.Stations.{portCount, numberAt}
+use Rattle.station.specs.declared.Station.{Station}
+use Rattle.replay_fields.specs.AnswerFields.{field, line, byteText, flag, parted}
+
+-- features are decimal
+abbrev pub featureText : FeatureIndex → List ℕ
+featureText feature = decimal (feature .0)
+
+-- with the comma before it
+abbrev pub featureMost : ℕ
+featureMost = 1 + byteMost
+
+-- byte 2, byte 3, the first three parameters, and then the ticks left
+unfoldable pub requestText : Request → List ℕ
+requestText r =
+    byteText (r .byte2 .0)
+    ++ (ascii ":"
+    ++ (byteText (r .byte3)
+    ++ (ascii ":"
+    ++ (byteText (r .first .0)
+    ++ (ascii ":"
+    ++ (byteText (r .first .1)
+    ++ (ascii ":"
+    ++ (byteText (r .first .2)
+    ++ (ascii ":"
+    ++ decimal (r .ticks))))))))))
+
+abbrev pub requestMost : ℕ
+requestMost = 2 + 4 * (1 + 2) + (1 + byteMost)
+
+unfoldable pub placeText : Request → List ℕ
+placeText r = cond (isEmpty r) (ascii "-") (requestText r)
+
+-- with the comma before it
+abbrev pub placeMost : ℕ
+placeMost = 1 + requestMost
+
+unfoldable pub featuresText : List FeatureIndex → List ℕ
+featuresText features = each (parted featureText) features
+
+unfoldable pub placesText : List Request → List ℕ
+placesText places = each (parted placeText) places
+
+unfoldable pub portLine : (number : ℕ) → Port → List ℕ
+portLine number p =
+    line
+    (ascii "port="
+    ∷ decimal number
+    ∷ field "paired" (flag (p .paired))
+    ∷ field "wpid" (hex 4 (p .wpid))
+    ∷ field "reports" (hex 8 (p .reports))
+    ∷ field "link" (linkText (p .up))
+    ∷ field "version" (versionText (p .version))
+    ∷ field "features" (featuresText (p .features))
+    ∷ field "battery" (batteryText (p .battery))
+    ∷ field "places" (placesText (p .places))
+    ∷ [])
+
+-- each name with its value at its longest, and a newline
+abbrev pub portMost : ℕ
+portMost =
+    (5 + byteMost)
+    + (8 + 1)
+    + (6 + 4)
+    + (9 + 8)
+    + (6 + linkMost)
+    + (9 + versionMost)
+    + (10 + featureMost * featureCount)
+    + (9 + batteryMost)
+    + (8 + placeMost * placeCount)
+    + 1
+
+-- a line for each port, under its number: 1 to 6, and then 255
+unfoldable pub portsText : List Port → List ℕ
+portsText ports = each (λ (position : ℕ) (p : Port). portLine (numberAt position) p) ports
+
+abbrev pub dumpText : Station → List ℕ
+dumpText st = portsText (st .ports)
+
+-- no dump is longer
+abbrev pub dumpMost : ℕ
+dumpMost = portMost * portCount

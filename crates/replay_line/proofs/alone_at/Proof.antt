@@ -1,0 +1,22 @@
+-- `replay_line::alone_at` meets its contract.
+use mathlib.Core.Path.{sym, _∙_}
+use Rattle.replay_line.specs.LineCallsLaws.{same-command}
+use borrow.Author.Needs.{needs}
+use Rattle.replay_line.proofs.alone_at.Statement.{statement}
+use Rattle.replay_line.proofs.alone_at.Tie as tie
+
+returns : tie.Need-returns
+returns c = same-command (c .bare .ensures) (simp (sym (c .before .before .is-end .ensures) ∙ c .before .if1 .taken))
+
+returns-2 : tie.Need-returns-2
+returns-2 c = same-command (c .bare2 .ensures) (simp (sym (c .before .before .is-end .ensures) ∙ c .before .if1 .left))
+
+pub alone-at-spec : {M : Type 1} → statement M
+alone-at-spec =
+    tie.close
+    (tie.spec
+    (λ c κs. search needs)
+    (λ c κs. search needs)
+    returns
+    (λ c κs. search needs)
+    returns-2)

@@ -1,0 +1,24 @@
+-- docs/SCRIPTS.md, "Lines": the calls that a line can be, with the values that its words stand for.
+use Prim.Native.Nat.{ℕ}
+use mathlib.Core.List.{List}
+
+-- the calls that write into a lent buffer
+pub data Writer : Type 0 where
+  request : (port byte2 byte3 ticks : ℕ) → Writer
+  switch : (bits timeout : ℕ) → Writer
+  getPaired : Writer
+  led : (port leds : ℕ) → Writer
+  list : Writer
+  frame : (port byte2 byte3 : ℕ) → Writer
+
+-- a writer is lent a buffer of `room` bytes; a request and a frame have parameters
+pub data Command : Type 0 where
+  blank : Command
+  noCall : Command
+  take : (bytes : List ℕ) → Command
+  cancel : (port byte2 byte3 : ℕ) → Command
+  tick : Command
+  read : (bytes : List ℕ) → Command
+  mouse : (payload : List ℕ) → Command
+  dump : Command
+  write : Writer → (offset room : ℕ) (params : List ℕ) → Command

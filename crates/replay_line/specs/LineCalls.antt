@@ -1,0 +1,124 @@
+-- docs/SCRIPTS.md, "Lines": one line, and the table of calls.
+use Prim.Native.Nat.{ℕ, _-_}
+use Prim.Native.String as strings
+use mathlib.Core.Bool.{cond}
+use mathlib.Core.List.{List, [], _∷_}
+use mathlib.Core.Option.{Option, none, some}
+use lib.ListN as lists
+use lib.Dec.{eqb}
+use Rattle.report.specs.Sizes.{byte}
+use Rattle.text.specs.Words.{ascii}
+use Rattle.replay_line.specs.LineWords.{words, sameWord, noWord}
+use Rattle.replay_line.specs.LineValues.{hexByte, number}
+use Rattle.replay_line.specs.LineFields.{first, andThen, portNumber, target, lent, bytesOf, limited}
+use Rattle.replay_line.specs.Commands.{Writer, request, switch, getPaired, led, list, frame, Command, blank, noCall, take, cancel, tick, read, mouse, dump, write}
+
+-- no word more
+abbrev pub alone : Command → List (List ℕ) → Command
+alone command words = cond (noWord words) command noCall
+
+-- the words that are left are bytes
+abbrev pub given : Option (List ℕ) → (List ℕ → Command) → Command
+given none command = noCall
+given (some bytes) command = command bytes
+
+unfoldable pub withBytes : (List ℕ → Command) → List (List ℕ) → Command
+withBytes command words = given (limited (bytesOf words)) command
+
+-- PLACE LEN, and no word more
+abbrev pub lentAlone : Writer → List (List ℕ) → Command
+lentAlone writer words =
+    andThen (lent words) noCall λ at words.
+    alone (write writer (at .offset) (at .room) []) words
+
+-- PLACE LEN HH..
+abbrev pub lentBytes : Writer → List (List ℕ) → Command
+lentBytes writer words =
+    andThen (lent words) noCall λ at words.
+    withBytes (write writer (at .offset) (at .room)) words
+
+unfoldable pub requestCall : List (List ℕ) → Command
+requestCall words =
+    andThen (target words) noCall λ to words.
+    andThen (first number words) noCall λ ticks words.
+    lentBytes (request (to .port) (to .byte2) (to .byte3) ticks) words
+
+unfoldable pub cancelCall : List (List ℕ) → Command
+cancelCall words =
+    andThen (target words) noCall λ to words.
+    alone (cancel (to .port) (to .byte2) (to .byte3)) words
+
+unfoldable pub switchCall : List (List ℕ) → Command
+switchCall words =
+    andThen (first hexByte words) noCall λ bits words.
+    andThen (first hexByte words) noCall λ timeout words.
+    lentAlone (switch bits timeout) words
+
+unfoldable pub ledCall : List (List ℕ) → Command
+ledCall words =
+    andThen (first portNumber words) noCall λ port words.
+    andThen (first hexByte words) noCall λ leds words.
+    lentAlone (led port leds) words
+
+unfoldable pub frameCall : List (List ℕ) → Command
+frameCall words =
+    andThen (target words) noCall λ to words.
+    lentBytes (frame (to .port) (to .byte2) (to .byte3)) words
+
+-- a row of the table: a call's first word, and what the words after it come to
+pub record Row : Type 0 where
+  pub name : List ℕ
+  pub call : List (List ℕ) → Command
+
+abbrev pub row : strings.String → (List (List ℕ) → Command) → Row
+row name call = record { name = ascii name; call = call }
+
+-- what needs no station, and the dump
+unfoldable pub otherRows : List Row
+otherRows =
+    row "read" (withBytes read)
+    ∷ row "frame" frameCall
+    ∷ row "mouse" (withBytes mouse)
+    ∷ row "dump" (alone dump)
+    ∷ []
+
+-- what writes into a lent buffer, except a request
+unfoldable pub writerRows : List Row
+writerRows =
+    row "switch" switchCall
+    ∷ row "get-paired" (lentAlone getPaired)
+    ∷ row "led" ledCall
+    ∷ row "list" (lentAlone list)
+    ∷ otherRows
+
+abbrev pub table : List Row
+table =
+    row "take" (withBytes take)
+    ∷ row "request" requestCall
+    ∷ row "cancel" cancelCall
+    ∷ row "tick" (alone tick)
+    ∷ writerRows
+
+-- the row of a name; no call where there is none
+abbrev pub called : List Row → List ℕ → List (List ℕ) → Command
+called [] name words = noCall
+called (r ∷ rows) name words = cond (sameWord name (r .name)) (r .call words) (called rows name words)
+
+-- the words of a line: the first is the name
+abbrev pub callOf : List (List ℕ) → Command
+callOf [] = noCall
+callOf (name ∷ words) = called table name words
+
+-- a line without one carriage return at its end
+unfoldable pub withoutReturn : List ℕ → List ℕ
+withoutReturn line =
+    cond (eqb (byte line (lists.length line - 1)) 13) (lists.take (lists.length line - 1) line) line
+
+-- an empty line and a line whose first character is '#' give no output; every other line is one call
+unfoldable pub textRule : List ℕ → Command
+textRule text =
+    cond (eqb (lists.length text) 0) blank
+    (cond (eqb (byte text 0) 35) blank (callOf (words text)))
+
+unfoldable pub lineRule : List ℕ → Command
+lineRule line = textRule (withoutReturn line)

@@ -1,0 +1,140 @@
+-- What the program reads of a line, in the terms of the rules.
+use Prim.Native.Nat.{ℕ, _-_, _≤_}
+use mathlib.Core.Path.{_≡_}
+use mathlib.Core.Bool.{Bool, false, not, cond}
+use mathlib.Core.List as lists
+use mathlib.Core.List.{[], _∷_}
+use mathlib.Core.Option.{Option, none, some}
+use lib.Dec.{eqb}
+use lib.ListN.{length, take, drop}
+use Rattle.replay_line.specs.declared.values.Hex.{Hex}
+use Rattle.replay_line.specs.declared.values.Hex.the-variants as hexes
+use Rattle.replay_line.specs.declared.values.Decimal.{Decimal}
+use Rattle.replay_line.specs.declared.values.Decimal.the-variants as decimals
+use Rattle.replay_line.specs.declared.fields.NextByte.{NextByte}
+use Rattle.replay_line.specs.declared.fields.NextByte.the-variants as bytes
+use Rattle.replay_line.specs.declared.fields.NextNumber.{NextNumber}
+use Rattle.replay_line.specs.declared.fields.NextNumber.the-variants as numbers
+use Rattle.replay_line.specs.declared.fields.NextTarget.{NextTarget}
+use Rattle.replay_line.specs.declared.fields.NextTarget.the-variants as targets
+use Rattle.replay_line.specs.declared.fields.NextLent.{NextLent}
+use Rattle.replay_line.specs.declared.fields.NextLent.the-variants as lents
+use Rattle.replay_line.specs.declared.fields.ByteList.{ByteList}
+use Rattle.replay_line.specs.declared.Command as program
+use Rattle.replay_line.specs.declared.Command.the-variants.{Blank, NoCall, Take, Cancel, Tick, Read, Mouse, Dump, Write}
+use Rattle.replay_line.specs.declared.Writer as program-writer
+use Rattle.replay_line.specs.declared.Writer.the-variants.{Request, Switch, GetPaired, Led, List, Frame}
+use Rattle.replay_line.specs.declared.Parsed.{Parsed}
+use Rattle.replay_line.specs.LineWords.{space, closed, words}
+use Rattle.replay_line.specs.LineFields as fields
+use Rattle.replay_line.specs.Commands as rules
+
+-- from a start up to an end
+abbrev pub part : ℕ → ℕ → lists.List ℕ → lists.List ℕ
+part start end line = take (end - start) (drop start line)
+
+abbrev pub startsSpace : lists.List ℕ → Bool
+startsSpace [] = false
+startsSpace (c ∷ text) = eqb c space
+
+abbrev pub startsWord : lists.List ℕ → Bool
+startsWord [] = false
+startsWord (c ∷ text) = not (eqb c space)
+
+-- r is the first offset from `at` on that holds no space
+pub record Skipped (line : lists.List ℕ) (at r : ℕ) : Type 0 where
+  pub within : r ≤ length line
+  pub same : words (drop at line) ≡ words (drop r line)
+  pub solid : startsSpace (drop r line) ≡ false
+
+-- r is the end of the word from `start` on
+pub record Ended (line : lists.List ℕ) (start r : ℕ) : Type 0 where
+  pub ordered : start ≤ r
+  pub within : r ≤ length line
+  pub so : words (drop start line) ≡ closed (part start r line) (words (drop r line))
+  pub stopped : startsWord (drop r line) ≡ false
+
+-- a word before the words that follow; no character is no word, and the end
+abbrev pub wordFrom : lists.List ℕ → lists.List (lists.List ℕ) → lists.List (lists.List ℕ)
+wordFrom [] following = []
+wordFrom (c ∷ word) following = (c ∷ word) ∷ following
+
+pub record NextWord (line : lists.List ℕ) (at start end : ℕ) : Type 0 where
+  pub ordered : start ≤ end
+  pub within : end ≤ length line
+  pub so : words (drop at line) ≡ wordFrom (part start end line) (words (drop end line))
+
+abbrev pub hexValue : Hex → Option ℕ
+hexValue (hexes.Byte value) = some value
+hexValue hexes.Nothing = none
+
+abbrev pub decimalValue : Decimal → Option ℕ
+decimalValue (decimals.Number value) = some value
+decimalValue decimals.Nothing = none
+
+-- an offset in the line stands for the words from there on
+abbrev pub byteRead : lists.List ℕ → NextByte → fields.Read ℕ
+byteRead line (bytes.Byte value next) = fields.got value (words (drop next line))
+byteRead line bytes.Nothing = fields.nothing
+
+abbrev pub numberRead : lists.List ℕ → NextNumber → fields.Read ℕ
+numberRead line (numbers.Number value next) = fields.got value (words (drop next line))
+numberRead line numbers.Nothing = fields.nothing
+
+abbrev pub targetRead : lists.List ℕ → NextTarget → fields.Read fields.Target
+targetRead line (targets.Target port byte2 byte3 next) =
+    fields.got (record { port = port .0; byte2 = byte2 .0; byte3 = byte3 }) (words (drop next line))
+targetRead line targets.Nothing = fields.nothing
+
+abbrev pub lentRead : lists.List ℕ → NextLent → fields.Read fields.Lent
+lentRead line (lents.Lent offset room next) =
+    fields.got (record { offset = offset; room = room }) (words (drop next line))
+lentRead line lents.Nothing = fields.nothing
+
+abbrev pub listed : ByteList → Option (lists.List ℕ)
+listed b = cond (b .whole) (some (take (b .count) (b .bytes))) none
+
+-- a list of bytes that stands for this, and lies within its array
+pub record Lists (rule : Option (lists.List ℕ)) (b : ByteList) : Type 0 where
+  pub so : listed b ≡ rule
+  pub within : b .count ≤ length (b .bytes)
+
+abbrev pub writerOf : program-writer.Writer → rules.Writer
+writerOf (Request port byte2 byte3 ticks) = rules.request (port .0) (byte2 .0) byte3 ticks
+writerOf (Switch bits timeout) = rules.switch bits timeout
+writerOf GetPaired = rules.getPaired
+writerOf (Led port leds) = rules.led (port .0) leds
+writerOf List = rules.list
+writerOf (Frame port byte2 byte3) = rules.frame (port .0) (byte2 .0) byte3
+
+-- a command of the program with the bytes beside it
+abbrev pub commandOf : program.Command → lists.List ℕ → rules.Command
+commandOf Blank bytes = rules.blank
+commandOf NoCall bytes = rules.noCall
+commandOf Take bytes = rules.take bytes
+commandOf (Cancel port byte2 byte3) bytes = rules.cancel (port .0) (byte2 .0) byte3
+commandOf Tick bytes = rules.tick
+commandOf Read bytes = rules.read bytes
+commandOf Mouse bytes = rules.mouse bytes
+commandOf Dump bytes = rules.dump
+commandOf (Write writer offset room) bytes = rules.write (writerOf writer) offset room bytes
+
+abbrev pub parsedCommand : Parsed → rules.Command
+parsedCommand p = commandOf (p .command) (take (p .count) (p .bytes))
+
+-- an answer that means this command, and whose bytes lie within their array
+pub record Parses (command : rules.Command) (p : Parsed) : Type 0 where
+  pub so : parsedCommand p ≡ command
+  pub within : p .count ≤ length (p .bytes)
+
+-- the length of the lent buffer; 0 where none is lent
+abbrev pub roomOf : rules.Command → ℕ
+roomOf rules.blank = 0
+roomOf rules.noCall = 0
+roomOf (rules.take bytes) = 0
+roomOf (rules.cancel port byte2 byte3) = 0
+roomOf rules.tick = 0
+roomOf (rules.read bytes) = 0
+roomOf (rules.mouse payload) = 0
+roomOf rules.dump = 0
+roomOf (rules.write writer offset room params) = room

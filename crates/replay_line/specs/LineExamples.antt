@@ -1,0 +1,62 @@
+-- docs/SCRIPTS.md, "Lines": lines worked out, those at the edges of the script language too.
+use Prim.Native.Nat.{ℕ}
+use mathlib.Core.Path.{_≡_, refl}
+use mathlib.Core.List.{List, [], _∷_, _++_, map}
+use Rattle.text.specs.Words.{ascii}
+use Rattle.replay_line.specs.LineWords.{words, wordsAfter, sameWord}
+use Rattle.replay_line.specs.LineValues.{hexByte, hexDigit, number, digitsAfter, allDigits, valueAfter}
+use Rattle.replay_line.specs.LineFields.{target, lent, bytesOf}
+use Rattle.replay_line.specs.Commands.{Command, blank, noCall, take, request, cancel, tick, switch, getPaired, led, list, read, frame, mouse, dump, write}
+use Rattle.replay_line.specs.LineCalls.{lineRule, textRule, withoutReturn, withBytes, requestCall, cancelCall, switchCall, ledCall, frameCall, otherRows, writerRows}
+
+-- a line, and the call that it is
+record Example : Type 0 where
+  line : List ℕ
+  command : Command
+
+abbrev reads : List ℕ → Command → Example
+reads line command = record { line = line; command = command }
+
+abbrev examples : List Example
+examples =
+    reads (ascii "request 2 00 11 10 1 9 00 00 5A") (write (request 2 0x00 0x11 10) 1 9 (0x00 ∷ 0x00 ∷ 0x5A ∷ []))
+    ∷ reads (ascii "take 10 02 00 11 02 00 5A") (take (0x10 ∷ 0x02 ∷ 0x00 ∷ 0x11 ∷ 0x02 ∷ 0x00 ∷ 0x5A ∷ []))
+    ∷ reads (ascii "list 0 64") (write list 0 64 [])
+    ∷ reads (ascii "# the edges of the script language itself") blank
+    ∷ reads [] blank
+    ∷ reads (ascii "  tick  ") tick
+    ∷ reads (ascii "tick x") noCall
+    ∷ reads (ascii "take 10 02 0") noCall
+    ∷ reads (ascii "take 1G") noCall
+    ∷ reads (ascii "request 2 00 11 010 0 7 00 00 5A") noCall
+    ∷ reads (ascii "request 256 00 11 10 0 7 00 00 5A") noCall
+    ∷ reads (ascii "request 2 00 11 65536 0 7 00 00 5A") noCall
+    ∷ reads (ascii "request 2 00 11 10 65535 7 00 00 5A") (write (request 2 0x00 0x11 10) 65535 7 (0x00 ∷ 0x00 ∷ 0x5A ∷ []))
+    ∷ reads (ascii "request 2 00 11 10 0 4096 00 00 5A") (write (request 2 0x00 0x11 10) 0 4096 (0x00 ∷ 0x00 ∷ 0x5A ∷ []))
+    ∷ reads (ascii "request 2 00 11 10 0 4097 00 00 5A") noCall
+    ∷ reads (ascii "cancel 2 00") noCall
+    ∷ reads (ascii "cancel 2 00 11 00") noCall
+    ∷ reads (ascii "cancel 2 00 11") (cancel 2 0x00 0x11)
+    ∷ reads (ascii "get-paired 0 0") (write getPaired 0 0 [])
+    ∷ reads (ascii " # not a comment") noCall
+    ∷ reads (ascii "Tick") noCall
+    ∷ reads (ascii "tick" ++ (13 ∷ [])) tick
+    ∷ reads (ascii "take 20 02 41 0e" ++ (13 ∷ [])) (take (0x20 ∷ 0x02 ∷ 0x41 ∷ 0x0e ∷ []))
+    ∷ reads (13 ∷ []) blank
+    ∷ reads (13 ∷ 13 ∷ []) noCall
+    ∷ reads (ascii "   ") noCall
+    ∷ reads (ascii "take" ++ (9 ∷ ascii "10")) noCall
+    ∷ reads (ascii "take") (take [])
+    ∷ reads (ascii "list +1 64") noCall
+    ∷ reads (ascii "list 00 64") noCall
+    ∷ reads (ascii "switch 3F 00 1 15") (write (switch 0x3F 0x00) 1 15 [])
+    ∷ reads (ascii "led 255 02 0 15") (write (led 255 0x02) 0 15 [])
+    ∷ reads (ascii "frame 255 81 02 0 7 00 00 00") (write (frame 255 0x81 0x02) 0 7 (0x00 ∷ 0x00 ∷ 0x00 ∷ []))
+    ∷ reads (ascii "mouse 01 FF") (mouse (0x01 ∷ 0xFF ∷ []))
+    ∷ reads (ascii "read") (read [])
+    ∷ reads (ascii "dump") dump
+    ∷ []
+
+all-read : map (λ (e : Example). lineRule (e .line)) examples ≡ map (λ (e : Example). e .command) examples
+unfolding lineRule textRule withoutReturn words wordsAfter sameWord hexByte hexDigit number digitsAfter allDigits valueAfter target lent bytesOf withBytes requestCall cancelCall switchCall ledCall frameCall otherRows writerRows
+all-read = refl

@@ -1,0 +1,159 @@
+// The words of a call one after another, each read as what it has to stand for.
+ghost use mathlib.Core.Path.{_≡_};
+ghost use lib.ListN.{drop};
+ghost use Rattle.replay_line.specs.LineWords.{words};
+ghost use Rattle.replay_line.specs.LineValues.{hexByte, number};
+ghost use Rattle.replay_line.specs.LineFields.{first, portNumber, target, lent, bytesOf, limited};
+ghost use Rattle.replay_line.specs.LineContracts.{byteRead, numberRead, targetRead, lentRead, Lists};
+use crate::values;
+use crate::values::Decimal;
+use crate::values::Hex;
+use crate::words;
+use report::Device;
+use report::FeatureIndex;
+
+const GREATEST_PORT: u16 = 255;
+
+// What is read from an offset on, and the offset after it.
+pub enum NextByte {
+    Byte { value: u8, next: usize },
+    Nothing,
+}
+
+pub enum NextNumber {
+    Number { value: u16, next: usize },
+    Nothing,
+}
+
+// PORT B2 B3.
+pub enum NextTarget {
+    Target {
+        port: Device,
+        byte2: FeatureIndex,
+        byte3: u8,
+        next: usize,
+    },
+    Nothing,
+}
+
+// PLACE LEN.
+pub enum NextLent {
+    Lent { offset: u16, room: u16, next: usize },
+    Nothing,
+}
+
+// The first `count` bytes; whole where every word was one of them.
+pub struct ByteList {
+    pub bytes: [u8; crate::MOST_BYTES],
+    pub count: usize,
+    pub whole: bool,
+}
+
+// HH.
+pub fn next_byte(line: &[u8], at: usize) -> NextByte
+    ensures read { λ r. ⌜ byteRead (now (line .entry)) r ≡ first hexByte (words (drop at (now (line .entry)))) ⌝ }
+{
+    let word = words::next_word(line, at);
+    let start = word.start;
+    let end = word.end;
+    match values::hex_byte(&line[start..end]) {
+        Hex::Byte(value) => NextByte::Byte { value, next: end },
+        Hex::Nothing => NextByte::Nothing,
+    }
+}
+
+// N.
+pub fn next_number(line: &[u8], at: usize) -> NextNumber
+    ensures read { λ r. ⌜ numberRead (now (line .entry)) r ≡ first number (words (drop at (now (line .entry)))) ⌝ }
+{
+    let word = words::next_word(line, at);
+    let start = word.start;
+    let end = word.end;
+    match values::number(&line[start..end]) {
+        Decimal::Number(value) => NextNumber::Number { value, next: end },
+        Decimal::Nothing => NextNumber::Nothing,
+    }
+}
+
+// PORT.
+pub fn next_port(line: &[u8], at: usize) -> NextByte
+    ensures read { λ r. ⌜ byteRead (now (line .entry)) r ≡ first portNumber (words (drop at (now (line .entry)))) ⌝ }
+{
+    let NextNumber::Number { value, next } = next_number(line, at) else {
+        return NextByte::Nothing;
+    };
+    if value <= GREATEST_PORT {
+        return NextByte::Byte {
+            value: value as u8,
+            next,
+        };
+    }
+    NextByte::Nothing
+}
+
+// PORT B2 B3.
+pub fn next_target(line: &[u8], at: usize) -> NextTarget
+    ensures read { λ r. ⌜ targetRead (now (line .entry)) r ≡ target (words (drop at (now (line .entry)))) ⌝ }
+{
+    let NextByte::Byte { value: port, next } = next_port(line, at) else {
+        return NextTarget::Nothing;
+    };
+    let NextByte::Byte { value: byte2, next } = next_byte(line, next) else {
+        return NextTarget::Nothing;
+    };
+    let NextByte::Byte { value: byte3, next } = next_byte(line, next) else {
+        return NextTarget::Nothing;
+    };
+    NextTarget::Target {
+        port: Device(port),
+        byte2: FeatureIndex(byte2),
+        byte3,
+        next,
+    }
+}
+
+// PLACE LEN.
+pub fn next_lent(line: &[u8], at: usize) -> NextLent
+    ensures read { λ r. ⌜ lentRead (now (line .entry)) r ≡ lent (words (drop at (now (line .entry)))) ⌝ }
+{
+    let NextNumber::Number {
+        value: offset,
+        next,
+    } = next_number(line, at)
+    else {
+        return NextLent::Nothing;
+    };
+    let NextNumber::Number { value: room, next } = next_number(line, next) else {
+        return NextLent::Nothing;
+    };
+    if room as usize <= crate::MOST_LENT {
+        return NextLent::Lent { offset, room, next };
+    }
+    NextLent::Nothing
+}
+
+// HH.. up to the end of the line.
+pub fn bytes_left(line: &[u8], at: usize) -> ByteList
+    ensures bytes { λ r. ⌜ Lists (limited (bytesOf (words (drop at (now (line .entry)))))) r ⌝ }
+{
+    let mut bytes = [0u8; crate::MOST_BYTES];
+    let mut count = 0;
+    let mut next = at;
+    while count < crate::MOST_BYTES {
+        let NextByte::Byte { value, next: past } = next_byte(line, next) else {
+            return ByteList {
+                bytes,
+                count,
+                whole: words::is_end(line, next),
+            };
+        };
+        bytes[count] = value;
+        count += 1;
+        next = past;
+    }
+    ByteList {
+        bytes,
+        count,
+        whole: words::is_end(line, next),
+    }
+}

@@ -1,0 +1,69 @@
+-- docs/SCRIPTS.md, "Answers": the line of each answer except a taken report's and a dump's, over the rules' answers.
+use Prim.Native.Nat.{ℕ, _+_, _*_}
+use mathlib.Core.List.{List, [], _∷_}
+use Rattle.report.specs.Reading as reading
+use Rattle.frame.specs.Writing as writing
+use Rattle.mouse.specs.Movement as movement
+use Rattle.port.specs.Waiting as waiting
+use Rattle.text.specs.Words.{ascii, hex, decimal}
+use Rattle.text.specs.Texts.{each}
+use Rattle.replay_fields.specs.AnswerFields.{field, line, byteText, signedText, spaced, refusedText}
+
+-- the whole lent buffer after the call
+abbrev pub lentText : List ℕ → List ℕ
+lentText lent = each (spaced byteText) lent
+
+-- the word, the number, a colon and the buffer; with no lent byte the line ends with the colon
+unfoldable pub outcomeText : List ℕ → ℕ → List ℕ → List ℕ
+outcomeText word number lent = line (word ∷ decimal number ∷ ascii ":" ∷ lentText lent ∷ [])
+
+unfoldable pub writtenText : writing.WriteAnswer → List ℕ → List ℕ
+writtenText (writing.refused number) lent = outcomeText (ascii "refused ") number lent
+writtenText (writing.wrote size) lent = outcomeText (ascii "wrote ") size lent
+
+-- no line of a writer is longer: three bytes for each lent one, and 32 for the rest of it
+abbrev pub writtenMost : (size : ℕ) → ℕ
+writtenMost size = 3 * size + 32
+
+unfoldable pub cancelledText : waiting.CancelAnswer → List ℕ
+cancelledText (waiting.CancelAnswer.refused number) = refusedText number
+cancelledText waiting.done = line (ascii "cancelled" ∷ [])
+
+-- the number of requests that a tick ended on each port
+unfoldable pub endedText : List ℕ → List ℕ
+endedText counts = line (ascii "ended" ∷ each (spaced decimal) counts ∷ [])
+
+unfoldable pub reportText : reading.Report → List ℕ
+reportText r =
+    line
+    (ascii "report"
+    ∷ field "id" (byteText (r .id))
+    ∷ field "device" (byteText (r .device))
+    ∷ field "byte2" (byteText (r .byte2))
+    ∷ field "byte3" (byteText (r .byte3))
+    ∷ field "start" (decimal (r .start))
+    ∷ field "length" (decimal (r .size))
+    ∷ [])
+
+-- an empty list is shown as any other report
+unfoldable pub readingText : reading.Read → List ℕ
+readingText (reading.refused number) = refusedText number
+readingText (reading.hidpp r) = reportText r
+readingText (reading.dj r) = reportText r
+readingText (reading.emptyList r) = reportText r
+
+unfoldable pub movedText : movement.Movement → List ℕ
+movedText (movement.refused number) = refusedText number
+movedText (movement.moved buttons x y wheel pan) =
+    line
+    (ascii "moved"
+    ∷ field "buttons" (hex 4 buttons)
+    ∷ field "x" (signedText x)
+    ∷ field "y" (signedText y)
+    ∷ field "wheel" (signedText wheel)
+    ∷ field "pan" (signedText pan)
+    ∷ [])
+
+-- what replay writes for a line that is no call
+unfoldable pub noCallText : ℕ → List ℕ
+noCallText number = line (ascii "line " ∷ decimal number ∷ ascii " is no call" ∷ [])

@@ -1,0 +1,52 @@
+-- Document 01, "Port listing": texts one after another, and the text of a link, of a version and of a battery.
+use Prim.Native.Nat.{ℕ, suc, _+_}
+use mathlib.Core.List.{List, [], _∷_, _++_}
+use mathlib.Core.Bool.{Bool, cond}
+use Rattle.port.specs.declared.Version.{Version}
+use Rattle.port.specs.declared.Version.the-variants as versions
+use Rattle.port.specs.declared.Battery.{Battery}
+use Rattle.port.specs.declared.Battery.the-variants as batteries
+use Rattle.text.specs.Words.{ascii, decimal}
+
+-- the text of each element in order; the number counts the elements before it
+unfoldable pub eachFrom : {A : Type 0} → (ℕ → A → List ℕ) → ℕ → List A → List ℕ
+eachFrom text n [] = []
+eachFrom text n (x ∷ xs) = text n x ++ eachFrom text (suc n) xs
+
+abbrev pub each : {A : Type 0} → (ℕ → A → List ℕ) → List A → List ℕ
+each text xs = eachFrom text 0 xs
+
+-- no number of 64 bits has more digits
+abbrev pub numberMost : ℕ
+numberMost = 20
+
+-- nor has a byte
+abbrev pub byteMost : ℕ
+byteMost = 3
+
+unfoldable pub linkText : Bool → List ℕ
+linkText up = cond up (ascii "up") (ascii "down")
+
+abbrev pub linkMost : ℕ
+linkMost = 4
+
+-- unknown is "-"
+abbrev pub unknown : List ℕ
+unknown = ascii "-"
+
+-- major.minor
+unfoldable pub versionText : Version → List ℕ
+versionText versions.Unknown = unknown
+versionText (versions.Known major minor) = decimal major ++ (ascii "." ++ decimal minor)
+
+abbrev pub versionMost : ℕ
+versionMost = byteMost + (1 + byteMost)
+
+-- level,next,status
+unfoldable pub batteryText : Battery → List ℕ
+batteryText batteries.Unknown = unknown
+batteryText (batteries.Known level next status) =
+    decimal level ++ (ascii "," ++ (decimal next ++ (ascii "," ++ decimal status)))
+
+abbrev pub batteryMost : ℕ
+batteryMost = byteMost + (1 + (byteMost + (1 + byteMost)))
