@@ -1,42 +1,49 @@
--- Document 01, "Ports and their records", refusals 5, 9 and 11, and "Writing": what holds on every station that calls reach.
+-- Document 01, "Ports and their records", "Refusal numbers" (5, 9 and 11) and "Writing": what holds on every station that calls reach.
 use Prim.Native.Nat.{ℕ, _≤_, _<_}
 use mathlib.Core.Path.{_≡_}
-use mathlib.Core.Bool.{true, false}
+use mathlib.Core.Bool.{Bool, true, false}
 use mathlib.Core.List.{List}
 use lib.ListN.{length}
 use Rattle.report.specs.declared.FeatureIndex.{FeatureIndex}
+use Rattle.port.specs.declared.Port.{Port}
 use Rattle.port.specs.declared.Request.{Request}
-use Rattle.port.specs.Records.{placeCount, featureCount, emptyPlace, requestAt, featureAt}
+use Rattle.port.specs.Records.{placeCount, featureCount, emptyPlace, requestIn, featureAt}
 use Rattle.port.specs.Places.{isEmpty, matches}
-use Rattle.hidpp.specs.Learning.{maxIndex}
+use Rattle.hidpp.specs.HidppRecords.{maxIndex}
+use Rattle.request.specs.Requesting.{maxTicks}
 use Rattle.station.specs.declared.Station.{Station}
-use Rattle.station.specs.Stations.{portCount, receiverPlace, portAt}
+use Rattle.station.specs.Stations.{portCount, receiverPosition, portAt}
 
--- the most ticks that a request may have left
-abbrev pub maxTicks : ℕ
-maxTicks = 255
-
--- a place: 1 to 255 ticks left in a used one; an empty one has 0, and is as fresh
+-- a place: at most 255 ticks left; one with 0, which is empty, is as fresh
 pub record SoundPlace (r : Request) : Type 0 where
   pub ticks : r .ticks ≤ maxTicks
-  pub used : isEmpty r ≡ false → 1 ≤ r .ticks
   pub empty : isEmpty r ≡ true → r ≡ emptyPlace
 
 -- two places where requests with the same bytes 2 and 3 wait are the same place
 abbrev pub Unique : List Request → Type 0
 Unique places =
-    (byte2 byte3 i j : ℕ) → matches byte2 byte3 (requestAt places i) ≡ true → matches byte2 byte3 (requestAt places j) ≡ true → i ≡ j
+    (byte2 byte3 i j : ℕ) → matches byte2 byte3 (requestIn places i) ≡ true → matches byte2 byte3 (requestIn places j) ≡ true → i ≡ j
 
--- the features and the places of one port
-pub record Sound (features : List FeatureIndex) (places : List Request) : Type 0 where
-  pub allFeatures : length features ≡ featureCount
-  pub allPlaces : length places ≡ placeCount
-  pub indexes : (at : ℕ) → featureAt features at ≤ maxIndex
+pub record SoundPlaces (places : List Request) : Type 0 where
+  pub all : length places ≡ placeCount
   pub unique : Unique places
-  pub each : (at : ℕ) → SoundPlace (requestAt places at)
+  pub each : (place : ℕ) → SoundPlace (requestIn places place)
 
--- seven ports; port 255 is not paired; each port's features and places are sound
+-- an index for each of the known features, at most 63
+pub record SoundFeatures (features : List FeatureIndex) : Type 0 where
+  pub all : length features ≡ featureCount
+  pub each : (slot : ℕ) → featureAt features slot ≤ maxIndex
+
+-- what the port at a position holds; port 255 is not paired
+pub record SoundRecord (position : ℕ) (paired : Bool) (features : List FeatureIndex) (places : List Request) : Type 0 where
+  pub receiver : position ≡ receiverPosition → paired ≡ false
+  pub indexes : SoundFeatures features
+  pub waiting : SoundPlaces places
+
+abbrev pub SoundPort : ℕ → Port → Type 0
+SoundPort position p = SoundRecord position (p .paired) (p .features) (p .places)
+
+-- seven ports
 pub record Reached (st : Station) : Type 0 where
-  pub allPorts : length (st .ports) ≡ portCount
-  pub receiver : portAt st receiverPlace .paired ≡ false
-  pub sound : (at : ℕ) → at < portCount → Sound (portAt st at .features) (portAt st at .places)
+  pub all : length (st .ports) ≡ portCount
+  pub each : (position : ℕ) → position < portCount → SoundPort position (portAt st position)

@@ -1,7 +1,10 @@
 pub mod Steps
 pub mod Targets
 pub mod Remaining
-pub mod Local
+pub mod LocalLaws
 pub mod Independence
+pub mod IndependenceLaws
 pub mod Histories
-pub mod Compared
+pub mod HistoriesLaws
+pub mod Comparison
+pub mod ComparisonLaws

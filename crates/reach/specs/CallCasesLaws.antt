@@ -1,0 +1,289 @@
+-- Document 01, "Refusal numbers", "Writing", "Taking a HID++ report" and "Taking a DJ report": the cases of a call are complete, and exclude each other.
+use Prim.Native.Nat.{ℕ, _<_}
+use mathlib.Core.Path.{_≡_, refl, sym, _∙_, ap, subst}
+use mathlib.Core.Logic.{_↔_}
+use mathlib.Core.Bool.{Bool, true, false, _&&_, true≢false}
+use mathlib.Core.List.{List}
+use native.Mathlib.Decide.{decLt}
+use native.Mathlib.Omega.{arith}
+use lib.ListN.{length}
+use lib.Dec.{leb}
+use borrow.Author.Tests.{leb-true, leb-false, eqb-true, eqb-false, ltb-true, ltb-false, not-true, not-false, lt-ltb, le-ltb, le-leb, lt-leb, ne-eqb}
+use Rattle.report.specs.ChoicesLaws.{by-case, both}
+use Rattle.report.specs.Refusals.{notWaiting}
+use Rattle.report.specs.Reading as reading
+use Rattle.report.specs.Reading.{Report, Read, readRule}
+use Rattle.frame.specs.Writing as writing
+use Rattle.port.specs.declared.Port.{Port}
+use Rattle.port.specs.Records.{placeCount, emptyPlace}
+use Rattle.port.specs.Places.{isEmpty, matches, firstAt, countWaiting}
+use Rattle.port.specs.Waiting as waiting
+use Rattle.port.specs.Waiting.{isFound, waitingAt, roomFor}
+use Rattle.port.specs.WaitingLaws.{few-waiting, full}
+use Rattle.port.specs.Answers.{Answer, refused, reply, stray, plain, event, failed, radio, notice, Result}
+use Rattle.hidpp.specs.declared.Message.{Message}
+use Rattle.hidpp.specs.HidppTaking.{messageOf, errorFits, named2, named3, errorRule, replyRule, featureRule, unaskedRule, takeHidpp}
+use Rattle.dj.specs.DjTaking.{radioRule, unpairedRule, pairedRule, linkRule, otherRule, takeDj}
+use Rattle.request.specs.Requesting.{RequestAt, pendingOf, requestBy, requestAt}
+use Rattle.station.specs.declared.Station.{Station}
+use Rattle.station.specs.Stations.{positionOf}
+use Rattle.station.specs.StationsLaws.{position-within}
+use Rattle.station.specs.StationTaking.{storedAt, takeBy, takeRule}
+use Rattle.station.specs.StationCalls.{RequestOutcome, requestedAt, requestRule, CancelOutcome, cancelledAt, cancelRule}
+use Rattle.sequence.specs.Steps.{Call, take, request, cancel, tick, write, Outcome, takeStep, requestStep, cancelStep, step}
+use Rattle.reach.specs.ListsLaws.{found-passes, passes-found}
+use Rattle.reach.specs.ReadingsLaws.{in-range, above}
+use Rattle.reach.specs.SoundLaws.{empty-fails}
+use Rattle.reach.specs.CallCases.{portFor, Waits, Unasked, IsFailed, IsReply, IsStray, unnamed, register, reserved, late, IsPlain, notification, major1, IsEvent, software0, HidppCase, givesFailed, givesReply, givesStray, givesPlain, givesEvent, radioUnpaired, radioUndeclared, linkUnpaired, DjCase, djRefused, radioTaken, unpairs, pairedSame, pairedNew, linkSet, otherNotice, Fits, RequestRefused, is9, is10, is11, is12, RequestCase, requestRefused, accepted, CancelCase, refused13, cancelDone, StepCase, unread, listEmpty, hidppAtPort, djAtPort, request5, requestAtPort, cancel5, cancelAtPort, tickAllPorts, writeOnly, Placed, AllPlaced, ByCases, HidppAnswers, RequestAnswers, CancelAnswers}
+
+-- what is no true test is a false one
+pub not-so : (b : Bool) → ¬ (b ≡ true) → b ≡ false
+not-so true n = absurd (n refl)
+not-so false n = refl
+
+module _ (p : Port) (placed : Placed p) where
+  -- what the search finds waits, and what waits is found
+  waits-at : (byte2 byte3 : ℕ) → isFound (waitingAt p byte2 byte3) ≡ true → Waits p byte2 byte3
+  waits-at byte2 byte3 e =
+      (waitingAt p byte2 byte3, found-passes (matches byte2 byte3) emptyPlace (p .places) (omega (arith, placed, ltb-true (waitingAt p byte2 byte3) placeCount e)))
+
+  pub waits-found : (byte2 byte3 : ℕ) → Waits p byte2 byte3 → waitingAt p byte2 byte3 < placeCount
+  waits-found byte2 byte3 w =
+      omega (arith, placed, passes-found (matches byte2 byte3) emptyPlace (p .places) (w .0) (empty-fails byte2 byte3) (w .1))
+
+  found : (byte2 byte3 : ℕ) → Waits p byte2 byte3 → isFound (waitingAt p byte2 byte3) ≡ true
+  found byte2 byte3 w = lt-ltb _ _ (waits-found byte2 byte3 w)
+
+  none-waits : (byte2 byte3 : ℕ) → isFound (waitingAt p byte2 byte3) ≡ false → ¬ Waits p byte2 byte3
+  none-waits byte2 byte3 e w = true≢false (sym (found byte2 byte3 w) ∙ e)
+
+  none-found : (byte2 byte3 : ℕ) → ¬ Waits p byte2 byte3 → isFound (waitingAt p byte2 byte3) ≡ false
+  none-found byte2 byte3 n = not-so _ (λ e. n (waits-at byte2 byte3 e))
+
+  -- where fewer wait than the port has places, one is empty
+  pub empty-place : countWaiting (p .places) < placeCount → firstAt isEmpty (p .places) < length (p .places)
+  empty-place l = go (decLt (firstAt isEmpty (p .places)) (length (p .places)))
+    where
+      go : Dec (firstAt isEmpty (p .places) < length (p .places)) → firstAt isEmpty (p .places) < length (p .places)
+      go (yes h) = h
+      go (no h) = absurd (omega (arith, leb-true placeCount (countWaiting (p .places)) (full (p .places) placed refl (omega arith))))
+
+module _ (p : Port) (placed : Placed p) (m : Message) where
+  abbrev Case : Result → Type 0
+  Case = HidppCase p m
+
+  abbrev b2 : ℕ
+  b2 = m .byte2 .0
+
+  -- every report has a case
+  feature-case : Unasked p m → b2 < 0x40 → Case (featureRule p m)
+  unfolding featureRule
+  feature-case u l =
+      by-case Case _ (λ e. givesPlain (major1 u l e))
+      (λ e. by-case Case _ (λ q. givesEvent (software0 u l e (eqb-true _ _ q)))
+      (λ q. givesStray (late u l e (eqb-false _ _ q))))
+
+  unasked-case : Unasked p m → Case (unaskedRule p m)
+  unfolding unaskedRule
+  unasked-case u =
+      by-case Case _ (λ e. let h = in-range _ _ _ e in givesStray (register u (h .0) (h .1)))
+      (λ e. by-case Case _ (λ q. let h = in-range _ _ _ q in givesPlain (notification u (h .0) (h .1)))
+      (λ q. by-case Case _ (λ z. feature-case u (ltb-true _ _ z))
+      (λ z. givesStray (reserved u (above 0x80 b2 0x83 e (above 0x40 b2 0x7F q (ltb-false _ _ z)))))))
+
+  pub hidpp-case : HidppCase p m (takeHidpp p m)
+  unfolding takeHidpp errorRule replyRule
+  hidpp-case =
+      by-case Case _
+      (λ e. by-case Case _ (λ q. let h = both _ _ q in givesFailed (e, (h .0, waits-at p placed _ _ (h .1))))
+      (λ q. givesStray (unnamed e (λ n. true≢false (simp (n .0, found p placed _ _ (n .1)) at q)))))
+      (λ e. by-case Case _ (λ q. givesReply (e, waits-at p placed _ _ q))
+      (λ q. unasked-case (e, none-waits p placed _ _ q)))
+
+  missed : Unasked p m → isFound (waitingAt p b2 (m .byte3)) ≡ false
+  missed u = none-found p placed b2 (m .byte3) (u .1)
+
+  low80 : b2 < 0x40 → leb 0x80 b2 ≡ false
+  low80 l = lt-leb 0x80 b2 (omega arith)
+
+  -- it has no other
+  hidpp-only : {r : Result} → HidppCase p m r → takeHidpp p m ≡ r
+  unfolding takeHidpp errorRule replyRule unaskedRule featureRule
+  hidpp-only (givesFailed h) = simp (h .0, h .1 .0, found p placed (named2 m) (named3 m) (h .1 .1))
+  hidpp-only (givesReply h) = simp (h .0, found p placed b2 (m .byte3) (h .1))
+  hidpp-only (givesStray (unnamed e n)) = simp (e, not-so (errorFits m && isFound (waitingAt p (named2 m) (named3 m))) (λ q. let h = both _ _ q in n (h .0, waits-at p placed _ _ (h .1))))
+  hidpp-only (givesStray (register u h l)) = simp (u .0, missed u, le-leb)
+  hidpp-only (givesStray (reserved u h)) =
+      simp (u .0, missed u, lt-leb b2 0x83 h, lt-leb b2 0x7F (omega arith), le-leb 0x80 b2 (omega arith), le-leb 0x40 b2 (omega arith), le-ltb b2 0x40 (omega arith))
+  hidpp-only (givesStray (late u l v z)) = simp (u .0, missed u, low80 l, lt-leb, lt-ltb, v, ne-eqb)
+  hidpp-only (givesPlain (notification u h l)) = simp (u .0, missed u, lt-leb 0x80 b2 (omega arith), le-leb)
+  hidpp-only (givesPlain (major1 u l v)) = simp (u .0, missed u, low80 l, lt-leb, lt-ltb, v)
+  hidpp-only (givesEvent (software0 u l v z)) = simp (u .0, missed u, low80 l, lt-leb, lt-ltb, v, z)
+
+  -- what is so where an answer is given
+  abbrev Why : Answer → Type 0
+  Why (refused number) = ⊥
+  Why (reply a) = IsReply p m
+  Why (stray a) = IsStray p m
+  Why (plain a) = IsPlain p m
+  Why (event a) = IsEvent p m
+  Why (failed a code kind) = IsFailed p m
+  Why (radio kind start size) = ⊥
+  Why (notice n) = ⊥
+
+  why : {r : Result} → Case r → Why (r .answer)
+  why (givesFailed h) = h
+  why (givesReply h) = h
+  why (givesStray h) = h
+  why (givesPlain h) = h
+  why (givesEvent h) = h
+
+  -- the answer of a case is given exactly where it is so
+  exactly : {r : Result} → (Why (r .answer) → Case r) → (takeHidpp p m .answer ≡ r .answer) ↔ Why (r .answer)
+  exactly f = (λ e. subst Why e (why hidpp-case), λ w. ap (λ (x : Result). x .answer) (hidpp-only (f w)))
+
+  pub hidpp-answers : HidppAnswers p m
+  hidpp-answers =
+      record {
+        whenFailed = exactly givesFailed;
+        whenReply = exactly givesReply;
+        whenStray = exactly givesStray;
+        whenPlain = exactly givesPlain;
+        whenEvent = exactly givesEvent;
+      }
+
+module _ (p : Port) (r : Report) (bytes : List ℕ) where
+  abbrev Dj : Result → Type 0
+  Dj = DjCase p r bytes
+
+  pub dj-case : DjCase p r bytes (takeDj p r bytes)
+  unfolding takeDj radioRule unpairedRule pairedRule linkRule otherRule
+  dj-case =
+      by-case Dj _
+      (λ e. let l = ltb-true _ _ e in by-case Dj _ (λ q. djRefused (radioUnpaired l (not-true _ q)))
+      (λ q. by-case Dj _
+      (λ z. djRefused (radioUndeclared l (not-false _ q) (not-true _ z)))
+      (λ z. radioTaken l (not-false _ q) (not-false _ z))))
+      (λ e. by-case Dj _ (λ q. unpairs (eqb-true _ _ q))
+      (λ q. by-case Dj _
+      (λ z. by-case Dj _ (pairedSame (eqb-true _ _ z)) (pairedNew (eqb-true _ _ z)))
+      (λ z. by-case Dj _
+      (λ y. by-case Dj _ (linkSet (eqb-true _ _ y)) (λ x. djRefused (linkUnpaired (eqb-true _ _ y) x)))
+      (λ y. otherNotice (omega (arith, ltb-false, eqb-false))))))
+
+  dj-only : {x : Result} → DjCase p r bytes x → takeDj p r bytes ≡ x
+  unfolding takeDj radioRule unpairedRule pairedRule linkRule otherRule
+  dj-only (djRefused (radioUnpaired l u)) = simp (lt-ltb, u)
+  dj-only (djRefused (radioUndeclared l u d)) = simp (lt-ltb, u, d)
+  dj-only (djRefused (linkUnpaired e u)) = simp (e, u)
+  dj-only (radioTaken l u d) = simp (lt-ltb, u, d)
+  dj-only (unpairs e) = simp e
+  dj-only (pairedSame e s) = simp (e, s)
+  dj-only (pairedNew e s) = simp (e, s)
+  dj-only (linkSet e u) = simp (e, u)
+  dj-only (otherNotice l) = simp (le-ltb (r .byte2) 0x40 (omega arith), ne-eqb (r .byte2) 0x40 (omega arith), ne-eqb (r .byte2) 0x41 (omega arith), ne-eqb (r .byte2) 0x42 (omega arith))
+
+module _ (p : Port) (placed : Placed p) (device byte2 byte3 ticks : ℕ) (params : List ℕ) (offset : ℕ) (lent : List ℕ) where
+  abbrev given : RequestAt
+  given = requestAt p device byte2 byte3 ticks params offset lent
+
+  abbrev Given : RequestAt → Type 0
+  Given = RequestCase p device byte2 byte3 ticks params offset lent
+
+  abbrev Refusing : ℕ → Type 0
+  Refusing = RequestRefused p device byte2 byte3 ticks params offset lent
+
+  abbrev Into : waiting.Room → Type 0
+  Into room = Given (requestBy room p (pendingOf byte2 byte3 ticks params) (writing.requestFrame device byte2 byte3 params) offset lent)
+
+  pub request-case : Given given
+  unfolding requestAt requestBy roomFor
+  request-case =
+      by-case Given _ (λ e. requestRefused (is9 e))
+      (λ e. by-case Given _ (λ q. requestRefused (is10 e (not-true _ q)))
+      (λ q. let f : Fits p device byte2 byte3 ticks params offset lent = record { allowed = e; room = not-false _ q } in by-case Into _ (λ z. requestRefused (is11 f (waits-at p placed _ _ z)))
+      (λ z. let n = none-waits p placed byte2 byte3 z in by-case Into _ (λ y. requestRefused (is12 f n (omega (arith, placed, few-waiting (p .places), leb-true placeCount (countWaiting (p .places)) y))))
+      (λ y. accepted f n (leb-false _ _ y)))))
+
+  request-only : {r : RequestAt} → Given r → given ≡ r
+  unfolding requestAt requestBy roomFor
+  request-only (requestRefused (is9 e)) = simp e
+  request-only (requestRefused (is10 e q)) = simp (e, q)
+  request-only (requestRefused (is11 f w)) = simp (f .allowed, f .room, found p placed byte2 byte3 w)
+  request-only (requestRefused (is12 f n l)) =
+      simp (f .allowed, f .room, none-found p placed byte2 byte3 n, le-leb placeCount (countWaiting (p .places)) (omega arith))
+  request-only (accepted f n l) = simp (f .allowed, f .room, none-found p placed byte2 byte3 n, lt-leb)
+
+  why-refused : {number : ℕ} {r : RequestAt} → Given r → r .answer ≡ writing.refused number → Refusing number
+  why-refused (requestRefused h) e = subst Refusing (cc) h
+  why-refused (accepted f q l) e = absurd (let z : _≡_ {A = ℕ} 0 1 = cc in omega arith)
+
+  pub request-answers : RequestAnswers p device byte2 byte3 ticks params offset lent
+  request-answers number = (why-refused request-case, λ h. ap (λ (r : RequestAt). r .answer) (request-only (requestRefused h)))
+
+module _ (p : Port) (placed : Placed p) (byte2 byte3 : ℕ) where
+  pub cancel-case : CancelCase p byte2 byte3 (waiting.cancelAt p byte2 byte3)
+  unfolding waiting.cancelAt
+  cancel-case =
+      by-case (CancelCase p byte2 byte3) _ (λ e. cancelDone (waits-at p placed byte2 byte3 e))
+      (λ e. refused13 (none-waits p placed byte2 byte3 e))
+
+  cancel-only : {r : waiting.CancelResult} → CancelCase p byte2 byte3 r → waiting.cancelAt p byte2 byte3 ≡ r
+  unfolding waiting.cancelAt
+  cancel-only (refused13 n) = simp (none-found p placed byte2 byte3 n)
+  cancel-only (cancelDone w) = simp (found p placed byte2 byte3 w)
+
+  not-waiting : {r : waiting.CancelResult} → CancelCase p byte2 byte3 r → r .answer ≡ waiting.CancelAnswer.refused notWaiting → ¬ Waits p byte2 byte3
+  not-waiting (refused13 n) e = n
+  not-waiting (cancelDone w) e = absurd (let z : _≡_ {A = ℕ} 0 1 = cc in omega arith)
+
+  pub cancel-answers : CancelAnswers p byte2 byte3
+  cancel-answers =
+      (not-waiting cancel-case, λ n. ap (λ (r : waiting.CancelResult). r .answer) (cancel-only (refused13 n)))
+
+module _ (st : Station) (placed : AllPlaced st) where
+  at-port : (device : ℕ) → Placed (portFor st device)
+  at-port device = placed (positionOf device) (position-within device)
+
+  take-case : {bytes : List ℕ} (x : Read) → readRule bytes ≡ x → StepCase st (take bytes) (takeStep bytes (takeBy x bytes st))
+  unfolding takeBy
+  take-case (reading.refused number) e = unread e
+  take-case (reading.emptyList r) e = listEmpty e
+  take-case {bytes} (reading.hidpp r) e = hidppAtPort e (hidpp-case _ (at-port (r .device)) (messageOf r bytes))
+  take-case {bytes} (reading.dj r) e = djAtPort e (dj-case _ r bytes)
+
+  pub step-case : (c : Call) → StepCase st c (step st c)
+  unfolding step takeRule requestRule cancelRule
+  step-case (take bytes) = take-case (readRule bytes) refl
+  step-case (request device byte2 byte3 ticks params offset lent) =
+      by-case (λ (o : RequestOutcome). StepCase st (request device byte2 byte3 ticks params offset lent) (requestStep params o)) _ (λ e. request5 (not-true _ e))
+      (λ e. requestAtPort (not-false _ e) (request-case _ (at-port device) device byte2 byte3 ticks params offset lent))
+  step-case (cancel device byte2 byte3) =
+      by-case (λ (o : CancelOutcome). StepCase st (cancel device byte2 byte3) (cancelStep o)) _ (λ e. cancel5 (not-true _ e))
+      (λ e. cancelAtPort (not-false _ e) (cancel-case _ (at-port device) byte2 byte3))
+  step-case tick = tickAllPorts
+  step-case (write writer offset lent) = writeOnly
+
+  read-as : {bytes : List ℕ} {x : Read} → readRule bytes ≡ x → step st (take bytes) ≡ takeStep bytes (takeBy x bytes st)
+  unfolding step takeRule
+  read-as {bytes} e = ap (λ (x : Read). takeStep bytes (takeBy x bytes st)) e
+
+  step-only : {c : Call} {o : Outcome} → StepCase st c o → step st c ≡ o
+  unfolding step takeBy requestRule cancelRule
+  step-only (unread e) = read-as e
+  step-only (listEmpty e) = read-as e
+  step-only (hidppAtPort {bytes} {r} e h) =
+      read-as e ∙ ap (λ (x : Result). takeStep bytes (storedAt st (positionOf (r .device)) x)) (hidpp-only _ (at-port (r .device)) _ h)
+  step-only (djAtPort {bytes} {r} e h) =
+      read-as e ∙ ap (λ (x : Result). takeStep bytes (storedAt st (positionOf (r .device)) x)) (dj-only _ r bytes h)
+  step-only (request5 e) = simp e
+  step-only (requestAtPort {device} {byte2} {byte3} {ticks} {params} {offset} {lent} e h) =
+      simp e (ap (λ (x : RequestAt). requestStep params (requestedAt st (positionOf device) x)) (request-only _ (at-port device) device byte2 byte3 ticks params offset lent h))
+  step-only (cancel5 e) = simp e
+  step-only (cancelAtPort {device} {byte2} {byte3} e h) =
+      simp e (ap (λ (x : waiting.CancelResult). cancelStep (cancelledAt st (positionOf device) x)) (cancel-only _ (at-port device) byte2 byte3 h))
+  step-only tickAllPorts = refl
+  step-only writeOnly = refl
+
+  pub by-cases : (c : Call) → ByCases st c
+  by-cases c o = (λ e. subst (StepCase st c) e (step-case c), step-only)
