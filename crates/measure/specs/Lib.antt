@@ -1,3 +1,3 @@
 pub mod Weights
-pub mod Scripts
-pub mod ScriptsLaws
+pub mod MeasuredCalls
+pub mod MeasuredCallsLaws

@@ -3,25 +3,24 @@ use Prim.Native.Nat.{ℕ, _+_}
 use mathlib.Core.List.{List}
 use Rattle.report.specs.Sizes.{byte}
 use Rattle.frame.specs.Writing as writing
-use Rattle.port.specs.Answers.{Answer, refused, reply, stray, plain, event, failed, radio, notice}
+use Rattle.port.specs.Answers.{About, Answer, refused, reply, stray, plain, event, failed, radio, notice}
 use Rattle.port.specs.Waiting as waiting
 
-abbrev pub aboutWeight : ℕ → ℕ → ℕ → ℕ → ℕ → ℕ → ℕ
-aboutWeight base port byte2 byte3 start size = base + port + byte2 + byte3 + start + size
+abbrev pub aboutWeight : ℕ → About → ℕ
+aboutWeight base a = base + a .port + a .byte2 + a .byte3 + a .start + a .size
 
 -- a notice has no more than its base
 abbrev pub takeWeight : Answer → ℕ
 takeWeight (refused number) = number
-takeWeight (reply port byte2 byte3 start size) = aboutWeight 1000 port byte2 byte3 start size
-takeWeight (stray port byte2 byte3 start size) = aboutWeight 2000 port byte2 byte3 start size
-takeWeight (plain port byte2 byte3 start size) = aboutWeight 3000 port byte2 byte3 start size
-takeWeight (event port byte2 byte3 start size) = aboutWeight 4000 port byte2 byte3 start size
-takeWeight (failed port byte2 byte3 start size code kind) =
-    aboutWeight (5000 + code + kind) port byte2 byte3 start size
+takeWeight (reply a) = aboutWeight 1000 a
+takeWeight (stray a) = aboutWeight 2000 a
+takeWeight (plain a) = aboutWeight 3000 a
+takeWeight (event a) = aboutWeight 4000 a
+takeWeight (failed a code kind) = aboutWeight (5000 + code + kind) a
 takeWeight (radio kind start size) = 6000 + kind + start + size
 takeWeight (notice n) = 7000
 
-abbrev pub writeWeight : writing.Answer → ℕ
+abbrev pub writeWeight : writing.WriteAnswer → ℕ
 writeWeight (writing.refused number) = number
 writeWeight (writing.wrote size) = size
 

@@ -1,25 +1,26 @@
 // Many calls on one station that is kept in a local, for the benchmark. bench/measure.h is the C side.
 ghost use mathlib.Core.Path.{_≡_};
 ghost use Prim.Native.Nat.{_≤_};
-ghost use Rattle.port.specs.Answers.{meaning, kindNumber};
-ghost use Rattle.port.specs.Waiting.{cancelOf};
-ghost use Rattle.frame.specs.Writing as writing;
 ghost use Rattle.measure.specs.Weights.{aboutWeight, takeWeight, writeWeight, cancelWeight, tickWeight};
-ghost use Rattle.measure.specs.Scripts.{measured, measuredBy};
+ghost use Rattle.measure.specs.MeasuredCalls.{measured, measuredBy};
+ghost use Rattle.port.specs.PortContracts.{aboutOf, takenOf, cancelOf};
+ghost use Rattle.frame.specs.FrameContracts.{writtenOf};
 use frame::Written;
 use port::answer::About;
-use port::answer::ErrorKind;
 use port::answer::Taken;
 use port::waiting::Cancelled;
 use report::Device;
 use report::FeatureIndex;
 use station::Station;
 
-// One call of a script: its kind, how many bytes it lends (below 64), the device, byte 2, byte 3, the ticks,
-// two bytes that are not looked at, and the bytes that it lends.
-const SLOT: usize = 72;
+// The head of a call: its kind, how many bytes it lends, the device, byte 2, byte 3, the ticks, and two bytes that
+// are not looked at.
+const HEAD: usize = 8;
 
-const LENT: usize = 8;
+// A call lends fewer bytes than this; they stand behind its head.
+const ROOM: u8 = 64;
+
+const CALL: usize = HEAD + ROOM as usize;
 
 const TAKE: u8 = 0;
 
@@ -30,7 +31,7 @@ const CANCEL: u8 = 2;
 const TICK: u8 = 3;
 
 fn about_weight(base: u16, a: About) -> u64
-    ensures { λ r. ⌜ r ≡ aboutWeight base (a .port .0) (a .byte2 .0) (a .byte3) (a .start) (a .length) ⌝ }
+    ensures { λ r. ⌜ r ≡ aboutWeight base (aboutOf a) ⌝ }
 {
     (base as u64)
         + (a.port.0 as u64)
@@ -40,17 +41,8 @@ fn about_weight(base: u16, a: About) -> u64
         + (a.length as u64)
 }
 
-fn kind_number(kind: ErrorKind) -> u8
-    ensures { λ r. ⌜ r ≡ kindNumber kind ⌝ }
-{
-    match kind {
-        ErrorKind::Hidpp1 => 0x8f,
-        ErrorKind::Hidpp2 => 0xff,
-    }
-}
-
 fn take_weight(answer: Taken) -> u64
-    ensures { λ r. ⌜ r ≡ takeWeight (meaning answer) ⌝ }
+    ensures { λ r. ⌜ r ≡ takeWeight (takenOf answer) ⌝ }
 {
     match answer {
         Taken::Refused(refusal) => refusal.number() as u64,
@@ -59,7 +51,7 @@ fn take_weight(answer: Taken) -> u64
         Taken::Plain(a) => about_weight(3000, a),
         Taken::Event(a) => about_weight(4000, a),
         Taken::Failed { about, code, kind } => {
-            about_weight(5000 + (code as u16) + (kind_number(kind) as u16), about)
+            about_weight(5000 + (code as u16) + (kind.number() as u16), about)
         }
         Taken::Radio {
             kind,
@@ -71,7 +63,7 @@ fn take_weight(answer: Taken) -> u64
 }
 
 fn write_weight(answer: Written) -> u64
-    ensures { λ r. ⌜ r ≡ writeWeight (writing.meaning answer) ⌝ }
+    ensures { λ r. ⌜ r ≡ writeWeight (writtenOf answer) ⌝ }
 {
     match answer {
         Written::Refused(refusal) => refusal.number() as u64,
@@ -101,7 +93,7 @@ fn ticks_of(x: u8) -> u16
     x as u16
 }
 
-fn tick_weight(ended: [u8; 7]) -> u64
+fn tick_weight(ended: [u8; port::PORTS]) -> u64
     ensures { λ r. ⌜ r ≡ tickWeight ended ⌝ }
 {
     wide(ended[0])
@@ -113,29 +105,29 @@ fn tick_weight(ended: [u8; 7]) -> u64
         + wide(ended[6])
 }
 
-// Makes the calls of the script on a fresh station, each request and listing at the front of the buffer, and
-// adds up what they answer.
+// Makes every whole call on a fresh station, each request and listing at the front of the buffer, and adds up
+// what they answer.
 #[no_mangle]
-pub extern "C" fn blotterfinch_measure(script: &[u8], buffer: &mut [u8]) -> u64
-    ensures { λ r. ⌜ measuredBy r (now (buffer .exit)) ≡ measured (now (script .entry)) (now (buffer .entry)) ⌝ }
+pub extern "C" fn blotterfinch_measure(calls: &[u8], buffer: &mut [u8]) -> u64
+    ensures by_rules { λ r. ⌜ measuredBy r (now (buffer .exit)) ≡ measured (now (calls .entry)) (now (buffer .entry)) ⌝ }
 {
-    let turns = script.len() / SLOT;
+    let turns = calls.len() / CALL;
     let mut s = Station::new();
     let mut sum: u64 = 0;
     let mut i = 0;
     while i < turns {
-        let at = SLOT * i;
-        let kind = script[at];
-        let start = at + LENT;
-        let end = start + (script[at + 1] % 64) as usize;
-        let device = script[at + 2];
-        let byte2 = script[at + 3];
-        let byte3 = script[at + 4];
-        let ticks = ticks_of(script[at + 5]);
+        let at = CALL * i;
+        let kind = calls[at];
+        let start = at + HEAD;
+        let end = start + (calls[at + 1] % ROOM) as usize;
+        let device = calls[at + 2];
+        let byte2 = calls[at + 3];
+        let byte3 = calls[at + 4];
+        let ticks = ticks_of(calls[at + 5]);
         i += 1;
         match kind {
             TAKE => {
-                let t = s.take(&script[start..end]);
+                let t = s.take(&calls[start..end]);
                 let next = t.station;
                 s = next;
                 let answer = t.answer;
@@ -148,7 +140,7 @@ pub extern "C" fn blotterfinch_measure(script: &[u8], buffer: &mut [u8]) -> u64
                     FeatureIndex(byte2),
                     byte3,
                     ticks,
-                    &script[start..end],
+                    &calls[start..end],
                     buffer,
                     0,
                 );

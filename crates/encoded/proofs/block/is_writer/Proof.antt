@@ -1,0 +1,13 @@
+-- `encoded::block::is_writer` meets its contract.
+use borrow.Author.Tests.{eq-eqb, ne-eqb}
+use Rattle.encoded.proofs.block.is_writer.Statement.{statement}
+use Rattle.encoded.proofs.block.is_writer.Tie as tie
+
+returns : tie.Need-returns
+returns c = simp (eq-eqb _ _ (c .if1 .taken))
+
+returns-2 : tie.Need-returns-2
+returns-2 c = simp (ne-eqb _ _ (c .if1 .left))
+
+pub is-writer-spec : {M : Type 1} → statement M
+is-writer-spec = tie.close (tie.spec returns returns-2)

@@ -1,0 +1,14 @@
+pub mod Blocks
+pub mod Decoding
+pub mod Encoding
+pub mod Rows
+pub mod EncodedRuns
+pub mod Demand3
+pub mod EncodedContracts
+pub mod DecodingLaws
+pub mod EncodingLaws
+pub mod RowsLaws
+pub mod CallsLaws
+pub mod CheckLaws
+pub mod PerformLaws
+pub mod Demand3Laws
