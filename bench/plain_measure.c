@@ -20,7 +20,7 @@ static uint64_t take_weight(const struct plain_answer *answer)
     }
 }
 
-uint64_t plain_measure(const uint8_t *script, size_t script_length, uint8_t *buffer,
+uint64_t plain_measure(const uint8_t *calls, size_t calls_length, uint8_t *buffer,
                        size_t buffer_length)
 {
     struct plain_station station;
@@ -29,10 +29,10 @@ uint64_t plain_measure(const uint8_t *script, size_t script_length, uint8_t *buf
     uint64_t sum = 0;
 
     plain_fresh(&station);
-    for (size_t i = 0; i < script_length / SLOT; i++) {
-        const uint8_t *call = script + SLOT * i;
-        const uint8_t *lent = call + SLOT_LENT;
-        size_t length = call[1] % SLOT_ROOM;
+    for (size_t i = 0; i < calls_length / CALL_SIZE; i++) {
+        const uint8_t *call = calls + CALL_SIZE * i;
+        const uint8_t *lent = call + CALL_HEAD;
+        size_t length = call[1] % CALL_ROOM;
         size_t written = 0;
 
         switch (call[0]) {

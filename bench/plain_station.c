@@ -2,86 +2,16 @@
 
 #include <string.h>
 
-#include "blotterfinch.h"
+#include "../tests/c/rules.h"
 
-enum { HIDPP_SHORT = 0x10, HIDPP_LONG = 0x11, DJ_SHORT = 0x20, DJ_LONG = 0x21 };
-enum { HIDPP_HEAD = 4, DJ_HEAD = 3 };
-enum { SHORT_PARAMETERS = 3, LONG_PARAMETERS = 16 };
-enum { RECEIVER = 0xFF };
 enum { ERROR_1 = 0x8F, ERROR_2 = 0xFF };
-enum {
-    FEATURE_INDEX_END = 0x40,
-    SET_REGISTER = 0x80,
-    GET_REGISTER = 0x81,
-    SET_LONG_REGISTER = 0x82,
-    GET_LONG_REGISTER = 0x83
-};
-enum { GET_FEATURE = 0, PING = 1 };
 enum { INVALID_SUB_ID = 1 };
 enum { MAX_INDEX = 63, MAX_LEVEL = 100 };
 enum { BATTERY = 3, WIRELESS_STATUS = 4 };
-enum {
-    KEYBOARD_LEDS = 0x0E,
-    DEVICE_UNPAIRED = 0x40,
-    DEVICE_PAIRED = 0x41,
-    CONNECTION_STATUS = 0x42,
-    DJ_COMMANDS = 0x80
-};
-enum { PAIRED_EMPTY = 1 << 1 };
 enum { RADIO_TYPES = 32 };
 enum { LONGEST_LISTING = 305 };
 
-static bool is_device(uint8_t index)
-{
-    return index >= 1 && index <= PLAIN_DEVICES;
-}
-
-static bool is_port(uint8_t index)
-{
-    return is_device(index) || index == RECEIVER;
-}
-
-static bool is_hidpp(uint8_t id)
-{
-    return id == HIDPP_SHORT || id == HIDPP_LONG;
-}
-
-static size_t report_length(uint8_t id)
-{
-    switch (id) {
-    case HIDPP_SHORT: return 7;
-    case HIDPP_LONG: return 20;
-    case DJ_SHORT: return 15;
-    case DJ_LONG: return 32;
-    default: return 0;
-    }
-}
-
-/* Refusals 5 and 6. */
-static uint8_t hidpp_refusal(const uint8_t *bytes)
-{
-    if (!is_port(bytes[1]))
-        return BLOTTERFINCH_NO_SUCH_PORT;
-    if ((bytes[2] >= 0x84 && bytes[2] <= 0x8E) || (bytes[2] >= 0x90 && bytes[2] <= 0xFE))
-        return BLOTTERFINCH_RESERVED_SUB_ID;
-    return BLOTTERFINCH_ACCEPTED;
-}
-
-/* Refusals 4 and 5. */
-static uint8_t dj_refusal(const uint8_t *bytes)
-{
-    uint8_t type = bytes[2];
-
-    if (type >= DJ_COMMANDS || type == KEYBOARD_LEDS)
-        return BLOTTERFINCH_DOWN_ONLY;
-    if (type == DEVICE_PAIRED && (bytes[3] & PAIRED_EMPTY) != 0)
-        return BLOTTERFINCH_ACCEPTED;
-    if (type > CONNECTION_STATUS ? is_port(bytes[1]) : is_device(bytes[1]))
-        return BLOTTERFINCH_ACCEPTED;
-    return BLOTTERFINCH_NO_SUCH_PORT;
-}
-
-/* Refusals 1 to 6. */
+/* 01, refusals 1 to 6. */
 static uint8_t report_refusal(const uint8_t *bytes, size_t length)
 {
     size_t due;
@@ -122,8 +52,8 @@ static uint8_t count_waiting(const struct plain_port *port)
     return count;
 }
 
-/* The place of a known feature, or PLAIN_FEATURES. */
-static int feature_place(uint8_t high, uint8_t low)
+/* The slot of a known feature, or PLAIN_FEATURES. */
+static int feature_slot(uint8_t high, uint8_t low)
 {
     switch (high << 8 | low) {
     case 0x0001: return 0;
@@ -158,7 +88,7 @@ static void set_battery(struct plain_port *port, const uint8_t *parameters)
 }
 
 /* The request is still in its place. */
-static void learn_reply(struct plain_port *port, const struct plain_request *request,
+static void record_reply(struct plain_port *port, const struct plain_request *request,
                         const uint8_t *bytes)
 {
     uint8_t function = bytes[3] >> 4;
@@ -166,7 +96,7 @@ static void learn_reply(struct plain_port *port, const struct plain_request *req
     if (bytes[2] == 0 && function == PING) {
         set_version(port, bytes[4], bytes[5]);
     } else if (bytes[2] == 0 && function == GET_FEATURE) {
-        int feature = feature_place(request->first[0], request->first[1]);
+        int feature = feature_slot(request->first[0], request->first[1]);
 
         if (feature < PLAIN_FEATURES)
             port->features[feature] = bytes[4] <= MAX_INDEX ? bytes[4] : 0;
@@ -175,7 +105,7 @@ static void learn_reply(struct plain_port *port, const struct plain_request *req
     }
 }
 
-static void learn_event(struct plain_port *port, const uint8_t *bytes)
+static void record_event(struct plain_port *port, const uint8_t *bytes)
 {
     if (bytes[3] != 0)
         return;
@@ -218,7 +148,7 @@ static enum plain_kind take_hidpp(struct plain_port *port, const uint8_t *bytes,
         return take_error(port, bytes, answer);
     request = waiting(port, bytes[2], bytes[3]);
     if (request != NULL) {
-        learn_reply(port, request, bytes);
+        record_reply(port, request, bytes);
         end_request(request);
         return PLAIN_REPLY;
     }
@@ -230,7 +160,7 @@ static enum plain_kind take_hidpp(struct plain_port *port, const uint8_t *bytes,
         return PLAIN_PLAIN;
     if ((bytes[3] & 0x0F) != 0)
         return PLAIN_STRAY;
-    learn_event(port, bytes);
+    record_event(port, bytes);
     return PLAIN_EVENT;
 }
 
@@ -258,8 +188,8 @@ static void take_radio(struct plain_port *port, const uint8_t *bytes, size_t len
     port->up = true;
     answer->kind = PLAIN_RADIO;
     answer->type = type;
-    answer->start = DJ_HEAD;
-    answer->length = payload_lengths[type] != 0 ? payload_lengths[type] : (uint8_t)(length - DJ_HEAD);
+    answer->start = DJ_PARAMETERS;
+    answer->length = payload_lengths[type] != 0 ? payload_lengths[type] : (uint8_t)(length - DJ_PARAMETERS);
 }
 
 static void take_paired(struct plain_port *port, const uint8_t *bytes, struct plain_answer *answer)
@@ -326,8 +256,8 @@ void plain_take(struct plain_station *station, const uint8_t *bytes, size_t leng
     if (is_hidpp(bytes[0])) {
         answer->byte2 = bytes[2];
         answer->byte3 = bytes[3];
-        answer->start = HIDPP_HEAD;
-        answer->length = (uint8_t)(length - HIDPP_HEAD);
+        answer->start = HIDPP_PARAMETERS;
+        answer->length = (uint8_t)(length - HIDPP_PARAMETERS);
         answer->kind = take_hidpp(port_of(station, bytes[1]), bytes, answer);
     } else if (bytes[2] < DEVICE_UNPAIRED) {
         take_radio(port_of(station, bytes[1]), bytes, length, answer);
@@ -336,27 +266,6 @@ void plain_take(struct plain_station *station, const uint8_t *bytes, size_t leng
     } else {
         take_notification(port_of(station, bytes[1]), bytes, answer);
     }
-}
-
-/* Refusal 9. */
-static bool is_forbidden(uint8_t byte2, uint8_t byte3, uint16_t ticks, const uint8_t *parameters,
-                         size_t length)
-{
-    bool is_short = length == SHORT_PARAMETERS, is_long = length == LONG_PARAMETERS;
-
-    if ((!is_short && !is_long) || ticks < 1 || ticks > 255)
-        return true;
-    switch (byte2) {
-    case SET_REGISTER:
-    case GET_REGISTER:
-    case GET_LONG_REGISTER:
-        return is_long;
-    case SET_LONG_REGISTER:
-        return is_short;
-    }
-    if (byte2 >= FEATURE_INDEX_END || (byte3 & 0x0F) == 0)
-        return true;
-    return byte2 == 0 && byte3 >> 4 == GET_FEATURE && parameters[0] == 0 && parameters[1] == 0;
 }
 
 static struct plain_request *empty_place(struct plain_port *port)
@@ -369,17 +278,17 @@ static struct plain_request *empty_place(struct plain_port *port)
 
 uint8_t plain_request(struct plain_station *station, uint8_t device, uint8_t byte2, uint8_t byte3,
                       uint16_t ticks, const uint8_t *parameters, size_t parameters_length,
-                      uint8_t *buffer, size_t buffer_length, size_t place, size_t *written)
+                      uint8_t *buffer, size_t buffer_length, size_t offset, size_t *written)
 {
     struct plain_port *port;
     struct plain_request *request;
-    size_t length = HIDPP_HEAD + parameters_length;
+    size_t length = HIDPP_PARAMETERS + parameters_length;
 
     if (!is_port(device))
         return BLOTTERFINCH_NO_SUCH_PORT;
-    if (is_forbidden(byte2, byte3, ticks, parameters, parameters_length))
+    if (ticks < 1 || ticks > 255 || is_forbidden(byte2, byte3, parameters, parameters_length))
         return BLOTTERFINCH_FORBIDDEN;
-    if (place > buffer_length || length > buffer_length - place)
+    if (!fits(length, buffer_length, offset))
         return BLOTTERFINCH_NO_ROOM;
     port = port_of(station, device);
     if (waiting(port, byte2, byte3) != NULL)
@@ -393,12 +302,12 @@ uint8_t plain_request(struct plain_station *station, uint8_t device, uint8_t byt
     memcpy(request->first, parameters, sizeof request->first);
     request->ticks = (uint8_t)ticks;
 
-    buffer += place;
-    buffer[0] = parameters_length == SHORT_PARAMETERS ? HIDPP_SHORT : HIDPP_LONG;
+    buffer += offset;
+    buffer[0] = length == HIDPP_SHORT_LENGTH ? HIDPP_SHORT : HIDPP_LONG;
     buffer[1] = device;
     buffer[2] = byte2;
     buffer[3] = byte3;
-    memcpy(buffer + HIDPP_HEAD, parameters, parameters_length);
+    memcpy(buffer + HIDPP_PARAMETERS, parameters, parameters_length);
     *written = length;
     return BLOTTERFINCH_ACCEPTED;
 }
@@ -492,7 +401,7 @@ static char *put_line(char *at, int device, const struct plain_port *port)
 }
 
 uint8_t plain_list(const struct plain_station *station, uint8_t *buffer, size_t buffer_length,
-                   size_t place, size_t *written)
+                   size_t offset, size_t *written)
 {
     char text[LONGEST_LISTING];
     char *at = put_text(text, "port\twpid\treports\tlink\tversion\tbattery\twaiting\n");
@@ -502,9 +411,9 @@ uint8_t plain_list(const struct plain_station *station, uint8_t *buffer, size_t 
         if (station->ports[i].paired)
             at = put_line(at, i + 1, &station->ports[i]);
     length = (size_t)(at - text);
-    if (place > buffer_length || length > buffer_length - place)
+    if (!fits(length, buffer_length, offset))
         return BLOTTERFINCH_NO_ROOM;
-    memcpy(buffer + place, text, length);
+    memcpy(buffer + offset, text, length);
     *written = length;
     return BLOTTERFINCH_ACCEPTED;
 }

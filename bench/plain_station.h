@@ -78,7 +78,7 @@ void plain_take(struct plain_station *station, const uint8_t *bytes, size_t leng
 /* Gives the refusal, or 0 and the number of bytes written. */
 uint8_t plain_request(struct plain_station *station, uint8_t device, uint8_t byte2, uint8_t byte3,
                       uint16_t ticks, const uint8_t *parameters, size_t parameters_length,
-                      uint8_t *buffer, size_t buffer_length, size_t place, size_t *written);
+                      uint8_t *buffer, size_t buffer_length, size_t offset, size_t *written);
 
 /* Gives the refusal, or 0. */
 uint8_t plain_cancel(struct plain_station *station, uint8_t device, uint8_t byte2, uint8_t byte3);
@@ -87,6 +87,6 @@ void plain_tick(struct plain_station *station, uint8_t ended[PLAIN_PORTS]);
 
 /* Gives the refusal, or 0 and the number of bytes written. */
 uint8_t plain_list(const struct plain_station *station, uint8_t *buffer, size_t buffer_length,
-                   size_t place, size_t *written);
+                   size_t offset, size_t *written);
 
 #endif

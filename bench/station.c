@@ -1,7 +1,7 @@
 /* Makes the same calls with the library's station and with plain C, for bench/station. With no argument
- * it makes each script once, for callgrind to count, and prints a line for each call: the script, the one
+ * it makes each sequence once, for callgrind to count, and prints a line for each call: the sequence, the one
  * that it is taken from, how many calls it has more, the bar, and the call's name. With the argument
- * `time` it prints nanoseconds per call of both; with `compare` it makes random scripts. */
+ * `time` it prints nanoseconds per call of both; with `compare` it makes random sequences. */
 #define _POSIX_C_SOURCE 199309L
 
 #include <stdio.h>
@@ -13,9 +13,9 @@
 
 enum { MAX_CALLS = 600, BUFFER = 400 };
 
-struct script {
+struct sequence {
     size_t calls;
-    uint8_t bytes[MAX_CALLS * SLOT];
+    uint8_t bytes[MAX_CALLS * CALL_SIZE];
 };
 
 struct outcome {
@@ -23,19 +23,19 @@ struct outcome {
     uint8_t buffer[BUFFER];
 };
 
-/* Each script is made by a function of its own on either side, so that callgrind has a line for each. */
+/* Each sequence is made by a function of its own on either side, so that callgrind has a line for each. */
 #define SCRIPTS(X) \
     X(setup) X(mouse) X(refused) X(event) X(request) X(reply) X(error) X(cancel) X(tick) X(list)
 
-#define INDEX(name) script_##name,
-enum { SCRIPTS(INDEX) SCRIPT_COUNT };
+#define INDEX(name) sequence_##name,
+enum { SCRIPTS(INDEX) SEQUENCE_COUNT };
 
-static struct script scripts[SCRIPT_COUNT];
+static struct sequence sequences[SEQUENCE_COUNT];
 
 #define MAKE(side, measure, name) \
     __attribute__((noinline)) static void side##_makes_##name(struct outcome *outcome) \
     { \
-        outcome->sum = measure(scripts[script_##name].bytes, scripts[script_##name].calls * SLOT, \
+        outcome->sum = measure(sequences[sequence_##name].bytes, sequences[sequence_##name].calls * CALL_SIZE, \
                                outcome->buffer, BUFFER); \
     }
 #define MAKE_LIBRARY(name) MAKE(library, blotterfinch_measure, name)
@@ -50,63 +50,63 @@ static const struct {
     void (*plain)(struct outcome *);
 } made[] = {SCRIPTS(BOTH)};
 
-/* A call's cost is that of its script less that of the script it was taken from, over the calls more. */
+/* A call's cost is that of its sequence less that of the sequence it was taken from, over the calls more. */
 static const struct {
-    int script, from;
+    int sequence, from;
     double bar; /* 0: none */
     const char *name;
 } lines[] = {
-    {script_mouse, script_setup, 4, "take: mouse report"},
-    {script_refused, script_setup, 0, "take: refused report"},
-    {script_event, script_setup, 0, "take: event"},
-    {script_reply, script_request, 6, "take: reply"},
-    {script_error, script_request, 0, "take: 0x8F error"},
-    {script_request, script_setup, 6, "request"},
-    {script_cancel, script_request, 0, "cancel"},
-    {script_tick, script_request, 0, "tick"},
-    {script_list, script_setup, 0, "listing"},
+    {sequence_mouse, sequence_setup, 4, "take: mouse report"},
+    {sequence_refused, sequence_setup, 0, "take: refused report"},
+    {sequence_event, sequence_setup, 0, "take: event"},
+    {sequence_reply, sequence_request, 6, "take: reply"},
+    {sequence_error, sequence_request, 0, "take: 0x8F error"},
+    {sequence_request, sequence_setup, 6, "request"},
+    {sequence_cancel, sequence_request, 0, "cancel"},
+    {sequence_tick, sequence_request, 0, "tick"},
+    {sequence_list, sequence_setup, 0, "listing"},
 };
 enum { LINES = sizeof lines / sizeof lines[0] };
 
-static uint8_t *add(struct script *script, enum call kind)
+static uint8_t *add(struct sequence *sequence, enum call kind)
 {
-    uint8_t *call = script->bytes + SLOT * script->calls;
+    uint8_t *call = sequence->bytes + CALL_SIZE * sequence->calls;
 
-    if (script->calls++ == MAX_CALLS)
+    if (sequence->calls++ == MAX_CALLS)
         abort();
     call[0] = (uint8_t)kind;
     return call;
 }
 
 /* A report of its id's length: the head and then zeros. */
-static void add_take(struct script *script, uint8_t id, const uint8_t *rest, size_t length)
+static void add_take(struct sequence *sequence, uint8_t id, const uint8_t *rest, size_t length)
 {
-    uint8_t *call = add(script, TAKE);
+    uint8_t *call = add(sequence, TAKE);
 
     call[1] = id == 0x10 ? 7 : id == 0x11 ? 20 : id == 0x20 ? 15 : 32;
-    call[SLOT_LENT] = id;
-    memcpy(call + SLOT_LENT + 1, rest, length);
+    call[CALL_HEAD] = id;
+    memcpy(call + CALL_HEAD + 1, rest, length);
 }
-#define TAKE_REPORT(script, id, ...) \
-    add_take(script, id, (const uint8_t[]){__VA_ARGS__}, sizeof(const uint8_t[]){__VA_ARGS__})
+#define TAKE_REPORT(sequence, id, ...) \
+    add_take(sequence, id, (const uint8_t[]){__VA_ARGS__}, sizeof(const uint8_t[]){__VA_ARGS__})
 
-static void add_request(struct script *script, uint8_t device, uint8_t byte2, uint8_t byte3,
+static void add_request(struct sequence *sequence, uint8_t device, uint8_t byte2, uint8_t byte3,
                         uint8_t first, uint8_t second)
 {
-    uint8_t *call = add(script, REQUEST);
+    uint8_t *call = add(sequence, REQUEST);
 
     call[1] = 3;
     call[2] = device;
     call[3] = byte2;
     call[4] = byte3;
     call[5] = 255;
-    call[SLOT_LENT] = first;
-    call[SLOT_LENT + 1] = second;
+    call[CALL_HEAD] = first;
+    call[CALL_HEAD + 1] = second;
 }
 
-static void add_cancel(struct script *script, uint8_t device, uint8_t byte2, uint8_t byte3)
+static void add_cancel(struct sequence *sequence, uint8_t device, uint8_t byte2, uint8_t byte3)
 {
-    uint8_t *call = add(script, CANCEL);
+    uint8_t *call = add(sequence, CANCEL);
 
     call[2] = device;
     call[3] = byte2;
@@ -119,47 +119,47 @@ static uint8_t port(int i)
 }
 
 /* Six paired devices with version, battery and link, and the receiver. */
-static void set_up(struct script *script)
+static void set_up(struct sequence *sequence)
 {
     for (int i = 0; i < 6; i++) {
         uint8_t device = port(i);
 
-        TAKE_REPORT(script, 0x20, device, 0x41, 0x00, 0x10, 0x20, 0x0E);
-        add_request(script, device, 0x00, 0x11, 0x00, 0x00);
-        TAKE_REPORT(script, 0x10, device, 0x00, 0x11, 0x02, 0x00);
-        add_request(script, device, 0x00, 0x01, 0x10, 0x00);
-        TAKE_REPORT(script, 0x10, device, 0x00, 0x01, 0x07);
-        TAKE_REPORT(script, 0x11, device, 0x07, 0x00, 0x32, 0x28, 0x01);
-        TAKE_REPORT(script, 0x20, device, 0x02, 0x01, 0x00, 0xFF, 0x1F, 0x00, 0x01, 0xFF);
+        TAKE_REPORT(sequence, 0x20, device, 0x41, 0x00, 0x10, 0x20, 0x0E);
+        add_request(sequence, device, 0x00, 0x11, 0x00, 0x00);
+        TAKE_REPORT(sequence, 0x10, device, 0x00, 0x11, 0x02, 0x00);
+        add_request(sequence, device, 0x00, 0x01, 0x10, 0x00);
+        TAKE_REPORT(sequence, 0x10, device, 0x00, 0x01, 0x07);
+        TAKE_REPORT(sequence, 0x11, device, 0x07, 0x00, 0x32, 0x28, 0x01);
+        TAKE_REPORT(sequence, 0x20, device, 0x02, 0x01, 0x00, 0xFF, 0x1F, 0x00, 0x01, 0xFF);
     }
 }
 
 enum { TURNS = 280, WAITING = 7 * 4 };
 
-static void write_scripts(void)
+static void write_sequences(void)
 {
-    for (int i = 0; i < SCRIPT_COUNT; i++)
-        set_up(&scripts[i]);
+    for (int i = 0; i < SEQUENCE_COUNT; i++)
+        set_up(&sequences[i]);
     for (int i = 0; i < TURNS; i++) {
-        TAKE_REPORT(&scripts[script_mouse], 0x20, 0x02, 0x02, 0x01, 0x00, 0xFF, 0x1F, 0x00, 0x01, 0xFF);
-        TAKE_REPORT(&scripts[script_refused], 0x20, 0x02, 0x04, 0x01);
-        TAKE_REPORT(&scripts[script_event], 0x11, 0x02, 0x07, 0x00, 0x32, 0x28, 0x01);
-        add(&scripts[script_list], LIST);
+        TAKE_REPORT(&sequences[sequence_mouse], 0x20, 0x02, 0x02, 0x01, 0x00, 0xFF, 0x1F, 0x00, 0x01, 0xFF);
+        TAKE_REPORT(&sequences[sequence_refused], 0x20, 0x02, 0x04, 0x01);
+        TAKE_REPORT(&sequences[sequence_event], 0x11, 0x02, 0x07, 0x00, 0x32, 0x28, 0x01);
+        add(&sequences[sequence_list], LIST);
     }
     /* A request in every place of every port, and then what ends it. */
-    for (int script = script_request; script <= script_tick; script++)
+    for (int sequence = sequence_request; sequence <= sequence_tick; sequence++)
         for (int i = 0; i < WAITING; i++)
-            add_request(&scripts[script], port(i / 4), (uint8_t)(0x10 + i % 4), 0x21, 0x01, 0x02);
+            add_request(&sequences[sequence], port(i / 4), (uint8_t)(0x10 + i % 4), 0x21, 0x01, 0x02);
     for (int i = 0; i < WAITING; i++) {
         uint8_t device = port(i / 4), byte2 = (uint8_t)(0x10 + i % 4);
 
-        TAKE_REPORT(&scripts[script_reply], 0x10, device, byte2, 0x21, 0x05);
-        TAKE_REPORT(&scripts[script_error], 0x10, device, 0x8F, byte2, 0x21, 0x02);
-        add_cancel(&scripts[script_cancel], device, byte2, 0x21);
-        add(&scripts[script_tick], TICK);
+        TAKE_REPORT(&sequences[sequence_reply], 0x10, device, byte2, 0x21, 0x05);
+        TAKE_REPORT(&sequences[sequence_error], 0x10, device, 0x8F, byte2, 0x21, 0x02);
+        add_cancel(&sequences[sequence_cancel], device, byte2, 0x21);
+        add(&sequences[sequence_tick], TICK);
     }
-    for (int i = 0; i < SCRIPT_COUNT; i++)
-        add(&scripts[i], LIST);
+    for (int i = 0; i < SEQUENCE_COUNT; i++)
+        add(&sequences[i], LIST);
 }
 
 static void expect_same(const struct outcome *library, const struct outcome *plain, const char *name)
@@ -170,26 +170,26 @@ static void expect_same(const struct outcome *library, const struct outcome *pla
     exit(1);
 }
 
-static void run_both(int script)
+static void run_both(int sequence)
 {
     static struct outcome library, plain;
 
-    made[script].library(&library);
-    made[script].plain(&plain);
-    expect_same(&library, &plain, made[script].name);
+    made[sequence].library(&library);
+    made[sequence].plain(&plain);
+    expect_same(&library, &plain, made[sequence].name);
 }
 
 static size_t calls_more(int line)
 {
-    return scripts[lines[line].script].calls - scripts[lines[line].from].calls;
+    return sequences[lines[line].sequence].calls - sequences[lines[line].from].calls;
 }
 
 static void count(void)
 {
-    for (int i = 0; i < SCRIPT_COUNT; i++)
+    for (int i = 0; i < SEQUENCE_COUNT; i++)
         run_both(i);
     for (int i = 0; i < LINES; i++)
-        printf("%s %s %zu %g %s\n", made[lines[i].script].name, made[lines[i].from].name, calls_more(i),
+        printf("%s %s %zu %g %s\n", made[lines[i].sequence].name, made[lines[i].from].name, calls_more(i),
                lines[i].bar, lines[i].name);
 }
 
@@ -219,23 +219,23 @@ static void keep_least(double *least, double took)
         *least = took;
 }
 
-/* The best of many trials, each of which goes through all scripts, so that a slow spell meets all of them. */
+/* The best of many trials, each of which goes through all sequences, so that a slow spell meets all of them. */
 static void print_times(void)
 {
     enum { TRIALS = 150 };
-    double library[SCRIPT_COUNT] = {0}, plain[SCRIPT_COUNT] = {0};
+    double library[SEQUENCE_COUNT] = {0}, plain[SEQUENCE_COUNT] = {0};
 
     for (int trial = 0; trial < TRIALS; trial++) {
-        for (int i = 0; i < SCRIPT_COUNT; i++) {
+        for (int i = 0; i < SEQUENCE_COUNT; i++) {
             keep_least(&library[i], timed(made[i].library));
             keep_least(&plain[i], timed(made[i].plain));
         }
     }
     for (int i = 0; i < LINES; i++) {
-        int script = lines[i].script, from = lines[i].from;
+        int sequence = lines[i].sequence, from = lines[i].from;
 
-        printf("%s %.1f %.1f\n", made[script].name, (library[script] - library[from]) / (double)calls_more(i),
-               (plain[script] - plain[from]) / (double)calls_more(i));
+        printf("%s %.1f %.1f\n", made[sequence].name, (library[sequence] - library[from]) / (double)calls_more(i),
+               (plain[sequence] - plain[from]) / (double)calls_more(i));
     }
 }
 
@@ -248,43 +248,43 @@ static uint8_t likely_byte(void)
     return rand() % 4 == 0 ? (uint8_t)rand() : often[(size_t)rand() % sizeof often];
 }
 
-static void add_random(struct script *script)
+static void add_random(struct sequence *sequence)
 {
     static const uint8_t ids[] = {0x10, 0x11, 0x20, 0x21}, lengths[] = {7, 20, 15, 32};
-    uint8_t *call = add(script, (enum call)(rand() % 20 == 0 ? rand() % 5 : rand() % 3));
+    uint8_t *call = add(sequence, (enum call)(rand() % 20 == 0 ? rand() % 5 : rand() % 3));
     int id = rand() % 4;
 
-    for (int i = 2; i < SLOT; i++)
+    for (int i = 2; i < CALL_SIZE; i++)
         call[i] = likely_byte();
     if (rand() % 8 != 0)
         call[5] = (uint8_t)(rand() % 4);
     call[1] = rand() % 16 == 0 ? (uint8_t)rand() : call[0] == TAKE ? lengths[id] : rand() % 2 ? 3 : 16;
     if (call[0] == TAKE && rand() % 16 != 0)
-        call[SLOT_LENT] = ids[id];
+        call[CALL_HEAD] = ids[id];
 }
 
 static void compare(void)
 {
     enum { RANDOM_SCRIPTS = 20000 };
     static struct outcome library, plain;
-    static struct script script;
+    static struct sequence sequence;
 
     srand(1);
     for (int i = 0; i < RANDOM_SCRIPTS; i++) {
-        script.calls = 0;
-        while (script.calls < 200)
-            add_random(&script);
-        add(&script, LIST);
-        library.sum = blotterfinch_measure(script.bytes, script.calls * SLOT, library.buffer, BUFFER);
-        plain.sum = plain_measure(script.bytes, script.calls * SLOT, plain.buffer, BUFFER);
-        expect_same(&library, &plain, "random script");
+        sequence.calls = 0;
+        while (sequence.calls < 200)
+            add_random(&sequence);
+        add(&sequence, LIST);
+        library.sum = blotterfinch_measure(sequence.bytes, sequence.calls * CALL_SIZE, library.buffer, BUFFER);
+        plain.sum = plain_measure(sequence.bytes, sequence.calls * CALL_SIZE, plain.buffer, BUFFER);
+        expect_same(&library, &plain, "random sequence");
     }
-    printf("%d random scripts: the library and plain C give the same\n", RANDOM_SCRIPTS);
+    printf("%d random sequences: the library and plain C give the same\n", RANDOM_SCRIPTS);
 }
 
 int main(int argc, char **argv)
 {
-    write_scripts();
+    write_sequences();
     if (argc == 1)
         count();
     else if (strcmp(argv[1], "time") == 0)

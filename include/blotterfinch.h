@@ -30,7 +30,7 @@ enum blotterfinch_refusal {
     BLOTTERFINCH_WRONG_LENGTH = 3,
     /* The DJ type is one that only the host sends: 0x0E, or 0x80 and above. */
     BLOTTERFINCH_DOWN_ONLY = 4,
-    /* The device is not 1 to 6, nor 255 where the receiver may stand too: in HID++ reports, requests
+    /* The device is not 1 to 6, nor 255 where the receiver is allowed too: in HID++ reports, requests
      * and DJ notifications 0x43 to 0x7F. An empty list (0x41, bit 1 of byte 3) may have any device. */
     BLOTTERFINCH_NO_SUCH_PORT = 5,
     /* Byte 2 of a HID++ report is 0x84 to 0x8E or 0x90 to 0xFE. */
@@ -39,7 +39,7 @@ enum blotterfinch_refusal {
      * or it is 0x82 in a short frame, or 0x80, 0x81 or 0x83 in a long one; or it is below 0x40 and the
      * software id is 0; or it asks GetFeature (byte 2 and function 0) for feature 0x0000. */
     BLOTTERFINCH_FORBIDDEN = 9,
-    /* The frame does not fit between place and the buffer's end, or place is past the end. */
+    /* The frame does not fit between offset and the buffer's end, or offset is past the end. */
     BLOTTERFINCH_NO_ROOM = 10,
     /* Bit 6 or 7 of the device bits is set. */
     BLOTTERFINCH_RESERVED_BITS = 14
@@ -78,24 +78,24 @@ blotterfinch_report blotterfinch_read(const uint8_t *bytes, size_t bytes_length)
 
 /* Writes a HID++ request, short with 3 parameters, long with 16. Refusals: 5, 9, 10.
  * parameters has parameters_length bytes; the call writes none; a refusal changes nothing.
- * buffer has buffer_length bytes; the call writes 7 or 20 from place on; a refusal changes nothing. */
+ * buffer has buffer_length bytes; the call writes 7 or 20 from offset on; a refusal changes nothing. */
 blotterfinch_written blotterfinch_request_frame(uint8_t device, uint8_t byte2, uint8_t byte3,
                                                 const uint8_t *parameters, size_t parameters_length,
-                                                uint8_t *buffer, size_t buffer_length, size_t place);
+                                                uint8_t *buffer, size_t buffer_length, size_t offset);
 
 /* Writes a DJ Switch and Keep-Alive command, timeout in seconds. Refusals: 14, 10.
- * buffer has buffer_length bytes; the call writes 15 from place on; a refusal changes nothing. */
+ * buffer has buffer_length bytes; the call writes 15 from offset on; a refusal changes nothing. */
 blotterfinch_written blotterfinch_switch_frame(uint8_t device_bits, uint8_t timeout,
-                                               uint8_t *buffer, size_t buffer_length, size_t place);
+                                               uint8_t *buffer, size_t buffer_length, size_t offset);
 
 /* Writes a DJ Get Paired Devices command. Refusals: 10.
- * buffer has buffer_length bytes; the call writes 15 from place on; a refusal changes nothing. */
-blotterfinch_written blotterfinch_get_paired_frame(uint8_t *buffer, size_t buffer_length, size_t place);
+ * buffer has buffer_length bytes; the call writes 15 from offset on; a refusal changes nothing. */
+blotterfinch_written blotterfinch_get_paired_frame(uint8_t *buffer, size_t buffer_length, size_t offset);
 
 /* Writes a DJ Keyboard LEDs report. Refusals: 5, 10.
- * buffer has buffer_length bytes; the call writes 15 from place on; a refusal changes nothing. */
+ * buffer has buffer_length bytes; the call writes 15 from offset on; a refusal changes nothing. */
 blotterfinch_written blotterfinch_led_frame(uint8_t device, uint8_t leds,
-                                            uint8_t *buffer, size_t buffer_length, size_t place);
+                                            uint8_t *buffer, size_t buffer_length, size_t offset);
 
 /* Reads the payload of a DJ mouse report (type 0x02), 7 bytes. Refusals: 3.
  * payload has payload_length bytes; the call writes none; a refusal changes nothing. */

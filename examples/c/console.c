@@ -27,11 +27,11 @@ static void show_report(const uint8_t *bytes, size_t length)
 }
 
 /* GetProtocolVersion to device 2, software id 1, ping data 0x5A. */
-static void write_ping(uint8_t *buffer, size_t length, size_t place)
+static void write_ping(uint8_t *buffer, size_t length, size_t offset)
 {
     const uint8_t parameters[] = {0x00, 0x00, 0x5A};
     blotterfinch_written w = blotterfinch_request_frame(2, 0x00, 0x11, parameters, sizeof parameters,
-                                                        buffer, length, place);
+                                                        buffer, length, offset);
 
     if (w.refusal != BLOTTERFINCH_ACCEPTED)
         printf("refused %d:", w.refusal);

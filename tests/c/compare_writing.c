@@ -21,7 +21,7 @@ struct call {
     size_t parameters_length;
     bool null_buffer;
     size_t buffer_length;
-    size_t place;
+    size_t offset;
 };
 
 struct writers {
@@ -55,13 +55,13 @@ static blotterfinch_written make(const struct writers *by, const struct call *c,
     switch (c->function) {
     case REQUEST:
         return by->request_frame(c->device, c->byte2, c->byte3, parameters, c->parameters_length, buffer,
-                                 c->buffer_length, c->place);
+                                 c->buffer_length, c->offset);
     case SWITCH:
-        return by->switch_frame(c->device_bits, c->timeout, buffer, c->buffer_length, c->place);
+        return by->switch_frame(c->device_bits, c->timeout, buffer, c->buffer_length, c->offset);
     case GET_PAIRED:
-        return by->get_paired_frame(buffer, c->buffer_length, c->place);
+        return by->get_paired_frame(buffer, c->buffer_length, c->offset);
     case LED:
-        return by->led_frame(c->device, c->leds, buffer, c->buffer_length, c->place);
+        return by->led_frame(c->device, c->leds, buffer, c->buffer_length, c->offset);
     default:
         abort();
     }
@@ -73,9 +73,9 @@ static void print_call(const struct call *c)
         [REQUEST] = "request", [SWITCH] = "switch", [GET_PAIRED] = "get paired", [LED] = "LED"};
 
     printf("%s: difference for device=%02X byte2=%02X byte3=%02X device_bits=%02X timeout=%02X leds=%02X "
-           "buffer_length=%zu%s place=%zu\n",
+           "buffer_length=%zu%s offset=%zu\n",
            names[c->function], c->device, c->byte2, c->byte3, c->device_bits, c->timeout, c->leds,
-           c->buffer_length, c->null_buffer ? " (NULL)" : "", c->place);
+           c->buffer_length, c->null_buffer ? " (NULL)" : "", c->offset);
     print_bytes("parameters", c->parameters, c->parameters_length);
 }
 
@@ -88,10 +88,10 @@ static bool kept_the_rest(const struct call *c, blotterfinch_written written, co
 
     if (written.refusal != BLOTTERFINCH_ACCEPTED)
         return memcmp(before, after, area) == 0;
-    if (c->place > c->buffer_length || written.length > c->buffer_length - c->place)
+    if (c->offset > c->buffer_length || written.length > c->buffer_length - c->offset)
         return false;
-    end = CANARY + c->place + written.length;
-    return memcmp(before, after, CANARY + c->place) == 0 &&
+    end = CANARY + c->offset + written.length;
+    return memcmp(before, after, CANARY + c->offset) == 0 &&
            memcmp(before + end, after + end, area - end) == 0;
 }
 
@@ -145,7 +145,7 @@ static struct call roomy(enum function function, const uint8_t *parameters, size
     c.timeout = any_byte();
     c.leds = any_byte();
     c.buffer_length = 64;
-    c.place = below(c.buffer_length - (HIDPP_HEADER + LONG_PARAMETERS) + 1);
+    c.offset = below(c.buffer_length - (HIDPP_HEADER + LONG_PARAMETERS) + 1);
     return c;
 }
 
@@ -200,7 +200,7 @@ static size_t any_buffer_length(size_t frame_length)
     }
 }
 
-static size_t any_place(size_t buffer_length, size_t frame_length)
+static size_t any_offset(size_t buffer_length, size_t frame_length)
 {
     size_t last = buffer_length < frame_length ? 0 : buffer_length - frame_length;
     size_t small = below(64);
@@ -265,7 +265,7 @@ static void any_call(enum function function)
     }
     c.buffer_length = any_buffer_length(frame_length);
     c.null_buffer = c.buffer_length == 0 && below(2);
-    c.place = any_place(c.buffer_length, frame_length);
+    c.offset = any_offset(c.buffer_length, frame_length);
     compare(&c);
 }
 

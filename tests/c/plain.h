@@ -12,12 +12,12 @@ blotterfinch_report plain_read(const uint8_t *bytes, size_t bytes_length);
 
 blotterfinch_written plain_request_frame(uint8_t device, uint8_t byte2, uint8_t byte3,
                                          const uint8_t *parameters, size_t parameters_length,
-                                         uint8_t *buffer, size_t buffer_length, size_t place);
+                                         uint8_t *buffer, size_t buffer_length, size_t offset);
 blotterfinch_written plain_switch_frame(uint8_t device_bits, uint8_t timeout,
-                                        uint8_t *buffer, size_t buffer_length, size_t place);
-blotterfinch_written plain_get_paired_frame(uint8_t *buffer, size_t buffer_length, size_t place);
+                                        uint8_t *buffer, size_t buffer_length, size_t offset);
+blotterfinch_written plain_get_paired_frame(uint8_t *buffer, size_t buffer_length, size_t offset);
 blotterfinch_written plain_led_frame(uint8_t device, uint8_t leds,
-                                     uint8_t *buffer, size_t buffer_length, size_t place);
+                                     uint8_t *buffer, size_t buffer_length, size_t offset);
 
 blotterfinch_movement plain_mouse(const uint8_t *payload, size_t payload_length);
 

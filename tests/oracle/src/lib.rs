@@ -1,8 +1,10 @@
-//! A second implementation of the receiver station and of replay scripts,
-//! written from document 01 and the replay page alone. Comparison tests run
-//! the same script through this one and through the library.
+//! A second implementation of the receiver station, of replay scripts and of
+//! encoded calls, written from document 01, the replay page and the page on
+//! encoded calls alone. Comparison tests run the same script through this one
+//! and through the library.
 
 pub mod count;
+pub mod encoded;
 pub mod random;
 pub mod script;
 pub mod station;

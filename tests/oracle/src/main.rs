@@ -1,4 +1,5 @@
-//! Replays scripts, makes random ones and counts the answers' kinds.
+//! Replays scripts, makes random ones and counts the answers' kinds; makes
+//! runs of encoded calls, random ones too.
 
 use std::ffi::{OsStr, OsString};
 use std::fs::File;
@@ -6,13 +7,16 @@ use std::io::{self, BufRead, BufReader, BufWriter, Write};
 use std::process::ExitCode;
 
 use oracle::count::Tally;
-use oracle::random::write_script;
+use oracle::encoded::run_all;
+use oracle::random::{write_runs, write_script};
 use oracle::script::{replay, Failure};
 
 const USAGE: &str = "\
 usage: oracle replay [FILE]
        oracle random SEED COUNT
-       oracle count FILE";
+       oracle count FILE
+       oracle encoded-random SEED COUNT
+       oracle encoded FILE";
 
 fn main() -> ExitCode {
     let arguments: Vec<OsString> = std::env::args_os().skip(1).collect();
@@ -22,6 +26,8 @@ fn main() -> ExitCode {
         [name, file] if *name == "replay" => replay_file(file),
         [name, seed, count] if *name == "random" => random(seed, count),
         [name, file] if *name == "count" => count(file),
+        [name, seed, count] if *name == "encoded-random" => random_runs(seed, count),
+        [name, file] if *name == "encoded" => run_file(file),
         _ => Err(USAGE.to_owned()),
     };
     match result {
@@ -54,6 +60,26 @@ fn random(seed: &OsStr, count: &OsStr) -> Result<ExitCode, String> {
     write_script(number(seed)?, number(count)?, output())
         .map_err(|error| failed("standard output", &error))?;
     Ok(ExitCode::SUCCESS)
+}
+
+fn random_runs(seed: &OsStr, count: &OsStr) -> Result<ExitCode, String> {
+    write_runs(number(seed)?, number(count)?, output())
+        .map_err(|error| failed("standard output", &error))?;
+    Ok(ExitCode::SUCCESS)
+}
+
+fn run_file(file: &OsStr) -> Result<ExitCode, String> {
+    let tally =
+        run_all(open(file)?, output()).map_err(|error| failed(&file.to_string_lossy(), &error))?;
+    eprintln!(
+        "malformed {}, no room {}, rows by kind {:?}",
+        tally.malformed, tally.no_room, tally.kinds
+    );
+    Ok(if tally.is_complete() {
+        ExitCode::SUCCESS
+    } else {
+        ExitCode::FAILURE
+    })
 }
 
 fn count(file: &OsStr) -> Result<ExitCode, String> {

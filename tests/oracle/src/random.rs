@@ -2,6 +2,7 @@
 //! replies, errors, events, repeats, cancels and radio reports aim at what
 //! waits or is declared at that point.
 
+mod blocks;
 mod plan;
 mod reports;
 mod rng;
@@ -12,6 +13,7 @@ use std::io::{self, Write};
 
 use crate::script::{make, parse, Call, Line, MOST_BYTES};
 use crate::station::{Key, Port, PortNumber, Station, Waiting};
+pub use blocks::write_runs;
 use plan::Step;
 use rng::Rng;
 use spelling::{spell, spell_no_call, spell_silent};
@@ -65,8 +67,7 @@ impl Generator {
         }
     }
 
-    /// A line that has an answer, without its newline.
-    pub fn answered_line(&mut self) -> Vec<u8> {
+    fn next_call(&mut self) -> Call {
         if self.rng.below(150) == 0 {
             self.focus = [0; 2].map(|_| self.rng.between(1, 6) as u8);
         }
@@ -78,10 +79,26 @@ impl Generator {
         } else {
             None
         };
-        let call = match step {
+        match step {
             Some(step) => self.planned(step),
             None => self.call(),
-        };
+        }
+    }
+
+    /// A call of the station, which the generator makes on its own.
+    pub fn station_call(&mut self) -> Call {
+        loop {
+            let call = self.next_call();
+            if call.is_of_station() {
+                self.follow(&call);
+                return call;
+            }
+        }
+    }
+
+    /// A line that has an answer, without its newline.
+    pub fn answered_line(&mut self) -> Vec<u8> {
+        let call = self.next_call();
         let line = if self.rng.chance(4) {
             spell_no_call(&mut self.rng, &call)
         } else {

@@ -19,10 +19,10 @@ pub const LENT: u8 = 0xEE;
 // ---------------------------------------------------------------------------
 // Calls
 
-/// A lent buffer of `length` bytes and the place in it to write at.
+/// A lent buffer of `length` bytes and the offset in it to write at.
 #[derive(Clone, Copy, Debug, PartialEq, Eq)]
 pub struct Lent {
-    pub place: u16,
+    pub offset: u16,
     pub length: u16,
 }
 
@@ -64,6 +64,16 @@ pub enum Call {
     Dump,
 }
 
+impl Call {
+    /// Whether it is made on the station: the others need none, or only show.
+    pub fn is_of_station(&self) -> bool {
+        !matches!(
+            self,
+            Call::Read(_) | Call::Frame { .. } | Call::Mouse(_) | Call::Dump
+        )
+    }
+}
+
 /// The sorts of word that follow a call's name.
 #[derive(Clone, Copy)]
 enum Argument {
@@ -102,11 +112,11 @@ const FORMS: [Form; 12] = [
         name: b"request",
         arguments: &[PortWord, Byte, Byte, Number, Number, Length],
         list: true,
-        build: |[port, byte2, byte3, ticks, place, length], parameters| Call::Request {
+        build: |[port, byte2, byte3, ticks, offset, length], parameters| Call::Request {
             port: port as u8,
             key: key(byte2, byte3),
             ticks,
-            lent: Lent { place, length },
+            lent: Lent { offset, length },
             parameters,
         },
     },
@@ -129,33 +139,33 @@ const FORMS: [Form; 12] = [
         name: b"switch",
         arguments: &[Byte, Byte, Number, Length],
         list: false,
-        build: |[bits, timeout, place, length, ..], _| Call::Switch {
+        build: |[bits, timeout, offset, length, ..], _| Call::Switch {
             bits: bits as u8,
             timeout: timeout as u8,
-            lent: Lent { place, length },
+            lent: Lent { offset, length },
         },
     },
     Form {
         name: b"get-paired",
         arguments: &[Number, Length],
         list: false,
-        build: |[place, length, ..], _| Call::GetPaired(Lent { place, length }),
+        build: |[offset, length, ..], _| Call::GetPaired(Lent { offset, length }),
     },
     Form {
         name: b"led",
         arguments: &[PortWord, Byte, Number, Length],
         list: false,
-        build: |[port, value, place, length, ..], _| Call::Led {
+        build: |[port, value, offset, length, ..], _| Call::Led {
             port: port as u8,
             value: value as u8,
-            lent: Lent { place, length },
+            lent: Lent { offset, length },
         },
     },
     Form {
         name: b"list",
         arguments: &[Number, Length],
         list: false,
-        build: |[place, length, ..], _| Call::List(Lent { place, length }),
+        build: |[offset, length, ..], _| Call::List(Lent { offset, length }),
     },
     Form {
         name: b"read",
@@ -167,10 +177,10 @@ const FORMS: [Form; 12] = [
         name: b"frame",
         arguments: &[PortWord, Byte, Byte, Number, Length],
         list: true,
-        build: |[port, byte2, byte3, place, length, ..], parameters| Call::Frame {
+        build: |[port, byte2, byte3, offset, length, ..], parameters| Call::Frame {
             port: port as u8,
             key: key(byte2, byte3),
-            lent: Lent { place, length },
+            lent: Lent { offset, length },
             parameters,
         },
     },
@@ -251,7 +261,7 @@ impl Word {
     fn push(&mut self, byte: u8) -> bool {
         let room = self.bytes.get_mut(self.length);
         self.length += usize::from(room.is_some());
-        room.map(|slot| *slot = byte).is_some()
+        room.map(|last| *last = byte).is_some()
     }
 
     fn bytes(&self) -> &[u8] {
@@ -416,7 +426,7 @@ pub fn make(station: &mut Station, call: &Call) -> Answer {
         | Call::List(lent)
         | Call::Frame { lent, .. } => {
             let mut buffer = vec![LENT; usize::from(lent.length)];
-            let result = write(station, call, usize::from(lent.place), &mut buffer);
+            let result = write(station, call, usize::from(lent.offset), &mut buffer);
             Answer::Written(result, buffer)
         }
     }
@@ -430,7 +440,7 @@ fn answer<T>(result: Result<T, Refusal>, accepted: impl FnOnce(T) -> Answer) -> 
 fn write(
     station: &mut Station,
     call: &Call,
-    place: usize,
+    offset: usize,
     buffer: &mut [u8],
 ) -> Result<usize, Refusal> {
     match call {
@@ -440,17 +450,17 @@ fn write(
             ticks,
             parameters,
             ..
-        } => station.request(&frame(*port, *key, parameters), *ticks, place, buffer),
+        } => station.request(&frame(*port, *key, parameters), *ticks, offset, buffer),
         Call::Frame {
             port,
             key,
             parameters,
             ..
-        } => write_frame(&frame(*port, *key, parameters), place, buffer),
-        Call::Switch { bits, timeout, .. } => station.switch(*bits, *timeout, place, buffer),
-        Call::GetPaired(_) => station.get_paired(place, buffer),
-        Call::Led { port, value, .. } => station.led(*port, *value, place, buffer),
-        Call::List(_) => station.list(place, buffer),
+        } => write_frame(&frame(*port, *key, parameters), offset, buffer),
+        Call::Switch { bits, timeout, .. } => station.switch(*bits, *timeout, offset, buffer),
+        Call::GetPaired(_) => station.get_paired(offset, buffer),
+        Call::Led { port, value, .. } => station.led(*port, *value, offset, buffer),
+        Call::List(_) => station.list(offset, buffer),
         Call::Take(_)
         | Call::Cancel { .. }
         | Call::Tick

@@ -24,8 +24,8 @@ pub enum Refusal {
     UndeclaredType = 8,
     /// A forbidden request.
     ForbiddenRequest = 9,
-    /// The whole frame or listing doesn't fit between the given place and the
-    /// buffer's end, or the place lies past the end.
+    /// The whole frame or listing doesn't fit between the given offset and the
+    /// buffer's end, or the offset lies past the end.
     DoesNotFit = 10,
     /// The port has a waiting request with the same bytes 2 and 3.
     AlreadyWaiting = 11,
@@ -88,7 +88,7 @@ impl PortNumber {
         self.0
     }
 
-    fn slot(self) -> usize {
+    fn position(self) -> usize {
         if self == Self::RECEIVER {
             6
         } else {
@@ -238,11 +238,11 @@ pub struct Station {
 
 impl Station {
     pub fn port(&self, number: PortNumber) -> &Port {
-        &self.ports[number.slot()]
+        &self.ports[number.position()]
     }
 
     fn port_mut(&mut self, number: PortNumber) -> &mut Port {
-        &mut self.ports[number.slot()]
+        &mut self.ports[number.position()]
     }
 
     /// Every port with its number, 1 to 6 and then 255.
@@ -530,7 +530,7 @@ impl Port {
             return self.take_error(kind, key, parameters);
         }
         if let Some(request) = self.end(key) {
-            self.learn_from_reply(&request, parameters);
+            self.record_reply(&request, parameters);
             return (Outcome::Reply, key);
         }
         let outcome = match key.byte2 {
@@ -565,11 +565,11 @@ impl Port {
         if key.software_id() != 0 {
             return Outcome::Stray;
         }
-        self.learn_from_event(key, parameters);
+        self.record_event(key, parameters);
         Outcome::Event
     }
 
-    fn learn_from_reply(&mut self, request: &Waiting, parameters: &[u8]) {
+    fn record_reply(&mut self, request: &Waiting, parameters: &[u8]) {
         let key = request.key;
         if key.is_ping() {
             self.version = Some(Version {
@@ -578,27 +578,27 @@ impl Port {
             });
         }
         if key.is_get_feature() {
-            self.learn_feature(request, parameters[0]);
+            self.record_feature(request, parameters[0]);
         }
         if key.function() == 0 && self.index_of(BATTERY_LEVEL_STATUS).is(key.byte2) {
-            self.learn_battery(parameters);
+            self.record_battery(parameters);
         }
     }
 
     /// Two features may hold one index, so both rules are looked at.
-    fn learn_from_event(&mut self, key: Key, parameters: &[u8]) {
+    fn record_event(&mut self, key: Key, parameters: &[u8]) {
         if key.byte3 != 0 {
             return;
         }
         if self.index_of(BATTERY_LEVEL_STATUS).is(key.byte2) {
-            self.learn_battery(parameters);
+            self.record_battery(parameters);
         }
         if self.index_of(WIRELESS_DEVICE_STATUS).is(key.byte2) {
             self.link = Link::Up;
         }
     }
 
-    fn learn_feature(&mut self, request: &Waiting, returned: u8) {
+    fn record_feature(&mut self, request: &Waiting, returned: u8) {
         let [high, low, _] = request.parameters;
         let asked = u16::from_be_bytes([high, low]);
         let index = if returned > FeatureIndex::HIGHEST {
@@ -613,7 +613,7 @@ impl Port {
         }
     }
 
-    fn learn_battery(&mut self, parameters: &[u8]) {
+    fn record_battery(&mut self, parameters: &[u8]) {
         let (level, next, status) = (parameters[0], parameters[1], parameters[2]);
         if level <= 100 && next <= 100 {
             self.battery = Some(Battery {
@@ -685,14 +685,14 @@ impl Port {
 // Writing
 
 /// The part of a lent buffer that a writer of `length` bytes may fill.
-fn room(buffer: &mut [u8], place: usize, length: usize) -> Result<&mut [u8], Refusal> {
-    let end = place.checked_add(length).ok_or(Refusal::DoesNotFit)?;
-    buffer.get_mut(place..end).ok_or(Refusal::DoesNotFit)
+fn room(buffer: &mut [u8], offset: usize, length: usize) -> Result<&mut [u8], Refusal> {
+    let end = offset.checked_add(length).ok_or(Refusal::DoesNotFit)?;
+    buffer.get_mut(offset..end).ok_or(Refusal::DoesNotFit)
 }
 
-/// Writes `bytes` at a place of a lent buffer and answers their number.
-fn put(bytes: &[u8], place: usize, buffer: &mut [u8]) -> Result<usize, Refusal> {
-    room(buffer, place, bytes.len())?.copy_from_slice(bytes);
+/// Writes `bytes` at an offset of a lent buffer and answers their number.
+fn put(bytes: &[u8], offset: usize, buffer: &mut [u8]) -> Result<usize, Refusal> {
+    room(buffer, offset, bytes.len())?.copy_from_slice(bytes);
     Ok(bytes.len())
 }
 
@@ -743,9 +743,9 @@ impl Frame<'_> {
 }
 
 /// Writes a request frame without a station: refusals 5, 9 and 10.
-pub fn write_frame(frame: &Frame, place: usize, buffer: &mut [u8]) -> Result<usize, Refusal> {
+pub fn write_frame(frame: &Frame, offset: usize, buffer: &mut [u8]) -> Result<usize, Refusal> {
     let (_, id) = frame.check()?;
-    frame.fill(id, room(buffer, place, id.length())?);
+    frame.fill(id, room(buffer, offset, id.length())?);
     Ok(id.length())
 }
 
@@ -753,32 +753,32 @@ pub fn write_frame(frame: &Frame, place: usize, buffer: &mut [u8]) -> Result<usi
 pub fn write_switch(
     bits: u8,
     timeout: u8,
-    place: usize,
+    offset: usize,
     buffer: &mut [u8],
 ) -> Result<usize, Refusal> {
     ensure(bits & 0b1100_0000 == 0, Refusal::ReservedDeviceBits)?;
     let receiver = PortNumber::RECEIVER.byte();
-    put_dj([receiver, dj::SWITCH, bits, timeout], place, buffer)
+    put_dj([receiver, dj::SWITCH, bits, timeout], offset, buffer)
 }
 
 /// Writes the get-paired frame: refusal 10.
-pub fn write_get_paired(place: usize, buffer: &mut [u8]) -> Result<usize, Refusal> {
+pub fn write_get_paired(offset: usize, buffer: &mut [u8]) -> Result<usize, Refusal> {
     let receiver = PortNumber::RECEIVER.byte();
-    put_dj([receiver, dj::GET_PAIRED, 0, 0], place, buffer)
+    put_dj([receiver, dj::GET_PAIRED, 0, 0], offset, buffer)
 }
 
 /// Writes the LED frame: refusals 5 and 10.
-pub fn write_led(port: u8, value: u8, place: usize, buffer: &mut [u8]) -> Result<usize, Refusal> {
+pub fn write_led(port: u8, value: u8, offset: usize, buffer: &mut [u8]) -> Result<usize, Refusal> {
     let port = PortNumber::device(port)?;
-    put_dj([port.byte(), dj::LED, value, 0], place, buffer)
+    put_dj([port.byte(), dj::LED, value, 0], offset, buffer)
 }
 
 /// A short DJ frame: the id, these four bytes, ten zeros.
-fn put_dj(start: [u8; 4], place: usize, buffer: &mut [u8]) -> Result<usize, Refusal> {
+fn put_dj(start: [u8; 4], offset: usize, buffer: &mut [u8]) -> Result<usize, Refusal> {
     let mut frame = [0; 15];
     frame[0] = ReportId::DjShort.byte();
     frame[1..5].copy_from_slice(&start);
-    put(&frame, place, buffer)
+    put(&frame, offset, buffer)
 }
 
 impl Station {
@@ -788,13 +788,13 @@ impl Station {
         &mut self,
         frame: &Frame,
         ticks: u16,
-        place: usize,
+        offset: usize,
         buffer: &mut [u8],
     ) -> Result<usize, Refusal> {
         let (number, id) = frame.check()?;
         let ticks = u8::try_from(ticks).map_err(|_| Refusal::ForbiddenRequest)?;
         ensure(ticks != 0, Refusal::ForbiddenRequest)?;
-        let room = room(buffer, place, id.length())?;
+        let room = room(buffer, offset, id.length())?;
         let port = self.port_mut(number);
         ensure(!port.waits_for(frame.key), Refusal::AlreadyWaiting)?;
         let empty = port.places.iter_mut().find(|place| place.is_none());
@@ -827,24 +827,24 @@ impl Station {
         &self,
         bits: u8,
         timeout: u8,
-        place: usize,
+        offset: usize,
         buffer: &mut [u8],
     ) -> Result<usize, Refusal> {
-        write_switch(bits, timeout, place, buffer)
+        write_switch(bits, timeout, offset, buffer)
     }
 
-    pub fn get_paired(&self, place: usize, buffer: &mut [u8]) -> Result<usize, Refusal> {
-        write_get_paired(place, buffer)
+    pub fn get_paired(&self, offset: usize, buffer: &mut [u8]) -> Result<usize, Refusal> {
+        write_get_paired(offset, buffer)
     }
 
     pub fn led(
         &self,
         port: u8,
         value: u8,
-        place: usize,
+        offset: usize,
         buffer: &mut [u8],
     ) -> Result<usize, Refusal> {
-        write_led(port, value, place, buffer)
+        write_led(port, value, offset, buffer)
     }
 }
 
@@ -906,8 +906,8 @@ pub const LISTING_HEADER: &str = "port\twpid\treports\tlink\tversion\tbattery\tw
 
 impl Station {
     /// Writes the port listing: refusal 10.
-    pub fn list(&self, place: usize, buffer: &mut [u8]) -> Result<usize, Refusal> {
-        put(self.listing().as_bytes(), place, buffer)
+    pub fn list(&self, offset: usize, buffer: &mut [u8]) -> Result<usize, Refusal> {
+        put(self.listing().as_bytes(), offset, buffer)
     }
 
     pub fn listing(&self) -> String {

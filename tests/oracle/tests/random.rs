@@ -151,8 +151,8 @@ fn writers_keep_the_bytes_around_the_frame() {
         else {
             panic!("{call:?} is no writer");
         };
-        let place = usize::from(lent.place);
-        let around = buffer[..place].iter().chain(&buffer[place + length..]);
+        let offset = usize::from(lent.offset);
+        let around = buffer[..offset].iter().chain(&buffer[offset + length..]);
         assert!(around.clone().all(|&byte| byte == LENT));
         assert_eq!(buffer.len(), usize::from(lent.length));
     }

@@ -362,7 +362,7 @@ fn link_needs_pairing_and_reads_bit_0() {
 }
 
 #[test]
-fn reserved_device_bits_come_before_the_place() {
+fn reserved_device_bits_come_before_the_offset() {
     assert_eq!(last("switch 40 00 0 3"), "refused 14: EE EE EE");
     assert_eq!(last("switch 80 00 0 3"), "refused 14: EE EE EE");
     assert_eq!(last("switch 3F 00 0 3"), "refused 10: EE EE EE");

@@ -1,21 +1,18 @@
 //! The replay vectors: every `NAME.script` in the folder that REPLAY_VECTORS
-//! names is answered as `NAME.expected` says.
+//! names, or else in tests/vectors, is answered as `NAME.expected` says.
 
 mod common;
 
 use std::fs;
 use std::path::{Path, PathBuf};
 
+const VECTORS: &str = concat!(env!("CARGO_MANIFEST_DIR"), "/../vectors");
+
 #[test]
 fn vectors() {
-    let Some(folder) = std::env::var_os("REPLAY_VECTORS").map(PathBuf::from) else {
-        eprintln!("skipped: REPLAY_VECTORS names no folder");
-        return;
-    };
-    let Ok(entries) = fs::read_dir(&folder) else {
-        eprintln!("skipped: {} cannot be read", folder.display());
-        return;
-    };
+    let folder = std::env::var_os("REPLAY_VECTORS").map_or_else(|| VECTORS.into(), PathBuf::from);
+    let entries =
+        fs::read_dir(&folder).unwrap_or_else(|error| panic!("{}: {error}", folder.display()));
     let paths = entries.map(|entry| entry.expect("an entry of the folder").path());
     let scripts: Vec<PathBuf> = paths.filter(|path| is_script(path)).collect();
     assert!(!scripts.is_empty(), "no script in {}", folder.display());

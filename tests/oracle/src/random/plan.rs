@@ -31,7 +31,7 @@ impl Generator {
         let mut steps = match self.rng.below(8) {
             0 => self.clearing(),
             1..=3 => self.filling(),
-            _ => self.learning(),
+            _ => self.finding(),
         };
         steps.reverse();
         self.plan = steps;
@@ -58,7 +58,7 @@ impl Generator {
     }
 
     /// Features and a version for a port, then reports that use them.
-    fn learning(&mut self) -> Vec<Step> {
+    fn finding(&mut self) -> Vec<Step> {
         let port = self.device_or_receiver();
         let mut steps = Vec::new();
         if self.rng.chance(30) {
@@ -143,7 +143,7 @@ impl Generator {
 /// The request with a lent buffer of just its size.
 fn fitting(draft: Draft) -> Call {
     let lent = Lent {
-        place: 0,
+        offset: 0,
         length: 4 + draft.parameters.len() as u16,
     };
     draft.request(lent)

@@ -65,14 +65,14 @@ fn words(rng: &mut Rng, call: &Call) -> Words {
             timeout,
             lent,
         } => {
-            let [place, length] = lent_words(lent);
+            let [offset, length] = lent_words(lent);
             let (bits, timeout) = (hex(rng, *bits), hex(rng, *timeout));
-            named("switch", [bits, timeout, place, length], vec![])
+            named("switch", [bits, timeout, offset, length], vec![])
         }
         Call::Led { port, value, lent } => {
-            let [place, length] = lent_words(lent);
+            let [offset, length] = lent_words(lent);
             let value = hex(rng, *value);
-            named("led", [decimal(*port), value, place, length], vec![])
+            named("led", [decimal(*port), value, offset, length], vec![])
         }
         Call::Frame { .. } | Call::Request { .. } => frame_words(rng, call),
     }
@@ -114,7 +114,7 @@ fn decimal(number: impl Into<u16>) -> Vec<u8> {
 }
 
 fn lent_words(lent: &Lent) -> [Vec<u8>; 2] {
-    [decimal(lent.place), decimal(lent.length)]
+    [decimal(lent.offset), decimal(lent.length)]
 }
 
 fn key_words(rng: &mut Rng, key: &Key) -> [Vec<u8>; 2] {

@@ -6,7 +6,7 @@ use crate::station::{
     Key, PortNumber, BATTERY_LEVEL_STATUS, KNOWN_FEATURES, WIRELESS_DEVICE_STATUS,
 };
 
-/// A request before it is given a place to be written at.
+/// A request before it is given an offset to be written at.
 pub struct Draft {
     pub port: u8,
     pub key: Key,
@@ -112,11 +112,11 @@ impl Generator {
 
     fn asked_feature(&mut self) -> u16 {
         let unknown = [0x0002, 0x0100, 0x0300, 0x0010, 0x4B1D, 0x1D00, 0xFFFF];
-        let learnt_from = [BATTERY_LEVEL_STATUS, WIRELESS_DEVICE_STATUS];
+        let of_use = [BATTERY_LEVEL_STATUS, WIRELESS_DEVICE_STATUS];
         match self.rng.below(10) {
             0 => self.rng.pick(&unknown),
             1..=3 => self.rng.pick(&KNOWN_FEATURES),
-            _ => self.rng.pick(&learnt_from),
+            _ => self.rng.pick(&of_use),
         }
     }
 
@@ -189,32 +189,32 @@ impl Generator {
 
 /// The other writers.
 impl Generator {
-    /// A lent buffer and a place in it, most often with room for `length`.
+    /// A lent buffer and an offset in it, most often with room for `length`.
     pub(super) fn lent(&mut self, length: usize) -> Lent {
         if self.rng.chance(15) {
             return self.too_small(length);
         }
         let most = usize::from(MOST_LENT);
-        let place = self.rng.pick(&[0, 0, 0, 1, 2, 3, 17]);
+        let offset = self.rng.pick(&[0, 0, 0, 1, 2, 3, 17]);
         match self.rng.below(200) {
-            0 => lend(place, most),
+            0 => lend(offset, most),
             1 => lend(most.saturating_sub(length), most),
-            2..=80 => lend(place, place + length),
-            _ => lend(place, place + length + self.rng.between(1, 4)),
+            2..=80 => lend(offset, offset + length),
+            _ => lend(offset, offset + length + self.rng.between(1, 4)),
         }
     }
 
     fn too_small(&mut self, length: usize) -> Lent {
-        let place = self.rng.pick(&[0, 0, 0, 1, 2, 3, 17]);
-        let end = place + length;
+        let offset = self.rng.pick(&[0, 0, 0, 1, 2, 3, 17]);
+        let end = offset + length;
         match self.rng.below(16) {
-            0 | 1 => lend(place, 0),
+            0 | 1 => lend(offset, 0),
             2 | 3 => lend(end + self.rng.below(3), end),
             4 => lend(65535 - self.rng.below(3) * length, end),
-            // Places that would fit if their high bits were lost.
+            // Offsets that would fit if their high bits were lost.
             5 => lend(self.rng.pick(&[256, 4096, 32768, 61440]), end),
-            6 | 7 => lend(place, self.rng.below(end)),
-            _ => lend(place, end - 1),
+            6 | 7 => lend(offset, self.rng.below(end)),
+            _ => lend(offset, end - 1),
         }
     }
 
@@ -265,9 +265,9 @@ impl Generator {
     }
 }
 
-fn lend(place: usize, length: usize) -> Lent {
+fn lend(offset: usize, length: usize) -> Lent {
     Lent {
-        place: place.min(65535) as u16,
+        offset: offset.min(65535) as u16,
         length: length.min(usize::from(MOST_LENT)) as u16,
     }
 }

@@ -1,0 +1,111 @@
+//! Encoded calls: blocks, rows and runs.
+
+use oracle::encoded::{run, run_all, Block, MALFORMED, ROW};
+use oracle::random::write_runs;
+
+fn block(opcode: u8, arguments: [u8; 3], data: &[u8]) -> Block {
+    Block {
+        opcode,
+        arguments,
+        data: data.to_vec(),
+        ..Block::default()
+    }
+}
+
+fn encode(blocks: &[Block]) -> Vec<u8> {
+    let mut encoded = Vec::new();
+    blocks.iter().for_each(|block| block.encode(&mut encoded));
+    encoded
+}
+
+/// 01, case c: a ping and its reply, and then the listing's refusal.
+#[test]
+fn ping_and_its_reply() {
+    let ping = Block {
+        ticks: 10,
+        lent: 7,
+        ..block(1, [2, 0x00, 0x11], &[0x00, 0x00, 0x5A])
+    };
+    let reply = block(0, [0; 3], &[0x10, 0x02, 0x00, 0x11, 0x02, 0x00, 0x5A]);
+    let encoded = encode(&[ping, reply, block(3, [0; 3], &[]), block(7, [0; 3], &[])]);
+    let (mut arena, mut answers) = ([0xAA; 7], [0xEE; 4 * ROW + 1]);
+    assert_eq!(run(&encoded, &mut arena, &mut answers), Ok(4 * ROW));
+    assert_eq!(arena, [0x10, 0x02, 0x00, 0x11, 0x00, 0x00, 0x5A]);
+    let rows: Vec<&[u8]> = answers.chunks(ROW).collect();
+    assert_eq!(rows[0], [13, 7, 0, 0, 0, 0, 0, 0, 0, 0]);
+    assert_eq!(rows[1], [1, 2, 0x00, 0x11, 4, 3, 0, 0, 0, 0]);
+    assert_eq!(rows[2], [16, 0, 0, 0, 0, 0, 0, 0, 0, 0]);
+    assert_eq!(rows[3], [12, 10, 0, 0, 0, 0, 0, 0, 0, 0]);
+    assert_eq!(rows[4], [0xEE]);
+}
+
+/// 01, case f, whose WPID and bitfield have more than one byte.
+#[test]
+fn pairing() {
+    let mut report = [0; 15];
+    report[..10].copy_from_slice(&[0x20, 2, 0x41, 1, 0x10, 0x20, 0x0E, 1, 2, 3]);
+    let mut answers = [0; ROW];
+    let encoded = encode(&[block(0, [0; 3], &report)]);
+    assert_eq!(run(&encoded, &mut [], &mut answers), Ok(ROW));
+    assert_eq!(answers, [8, 2, 1, 0x10, 0x20, 0x0E, 1, 2, 3, 0]);
+}
+
+#[test]
+fn nothing_is_no_call() {
+    assert_eq!(run(&[], &mut [], &mut []), Ok(0));
+    assert_eq!(run(&[], &mut [0], &mut []), Err(MALFORMED));
+}
+
+#[test]
+fn malformed_blocks() {
+    let tick = encode(&[block(3, [0; 3], &[1, 2])]);
+    let mut answers = [0xEE; 2 * ROW];
+    assert_eq!(run(&tick, &mut [], &mut answers), Ok(ROW));
+    for length in 1..tick.len() {
+        let cut = run(&tick[..length], &mut [], &mut answers);
+        assert_eq!(cut, Err(MALFORMED), "{length} bytes");
+    }
+    let unknown = encode(&[block(8, [0; 3], &[])]);
+    assert_eq!(run(&unknown, &mut [], &mut answers), Err(MALFORMED));
+    let lent = Block {
+        lent: 3,
+        ..block(5, [0; 3], &[])
+    };
+    let lent = encode(&[lent]);
+    for room in [0, 2, 4] {
+        let ran = run(&lent, &mut vec![0; room], &mut answers);
+        assert_eq!(ran, Err(MALFORMED), "arena of {room} bytes");
+    }
+}
+
+#[test]
+fn rows_that_do_not_fit() {
+    let ticks = encode(&[block(3, [0; 3], &[]), block(3, [0; 3], &[])]);
+    let mut answers = [0xEE; 2 * ROW];
+    let refused = run(&ticks, &mut [], &mut answers[..2 * ROW - 1]);
+    assert_eq!(refused, Err(10));
+    assert_eq!(answers, [0xEE; 2 * ROW]);
+}
+
+/// Take, cancel and tick are lent nothing, whatever their field says.
+#[test]
+fn calls_that_write_nothing() {
+    let blocks = [0, 2, 3].map(|opcode| Block {
+        lent: 65535,
+        ..block(opcode, [0; 3], &[])
+    });
+    let mut answers = [0; 3 * ROW];
+    assert_eq!(
+        run(&encode(&blocks), &mut [], &mut answers),
+        Ok(answers.len())
+    );
+    assert_eq!([answers[1], answers[11]], [1, 5]);
+}
+
+#[test]
+fn random_runs_have_every_kind() {
+    let mut runs = Vec::new();
+    write_runs(1, 20_000, &mut runs).unwrap();
+    let tally = run_all(&runs[..], std::io::sink()).unwrap();
+    assert!(tally.is_complete(), "{tally:?}");
+}
