@@ -6,7 +6,7 @@
 #include <stddef.h>
 #include <stdint.h>
 
-/* One call: its kind, how many bytes it lends (below 64), the device, byte 2, byte 3, the
+/* One call: its kind, the number of bytes that it lends (below 64), the device, byte 2, byte 3, the
  * ticks, two bytes that are not looked at, and the bytes that it lends. */
 enum { CALL_HEAD = 8, CALL_ROOM = 64, CALL_SIZE = CALL_HEAD + CALL_ROOM };
 enum call { TAKE, REQUEST, CANCEL, TICK, LIST };

@@ -1,6 +1,6 @@
 /* Makes the same calls with the library's station and with plain C, for bench/station. With no argument
  * it makes each sequence once, for callgrind to count, and prints a line for each call: the sequence, the one
- * that it is taken from, how many calls it has more, the bar, and the call's name. With the argument
+ * that it is taken from, the number of calls that it has more, the bar, and the call's name. With the argument
  * `time` it prints nanoseconds per call of both; with `compare` it makes random sequences. */
 #define _POSIX_C_SOURCE 199309L
 

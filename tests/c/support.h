@@ -28,7 +28,7 @@ enum { WRAPS = 2, WRAP_MAX = 0x10000 };
 extern const size_t wraps[WRAPS];
 
 /* Copies the bytes to where a page without access follows them: reading past their end stops the run.
- * NULL stays NULL. At most LENT_MAX bytes; they stand until the next call. */
+ * NULL stays NULL. At most LENT_MAX bytes; they stay until the next call. */
 enum { LENT_MAX = 2 * WRAP_MAX };
 const uint8_t *lend(const uint8_t *bytes, size_t length);
 

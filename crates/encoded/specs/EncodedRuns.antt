@@ -24,7 +24,7 @@ unfoldable pub rows : List Returned → List ℕ
 rows [] = []
 rows (t ∷ ts) = encodeAnswer (t .answer) ++ rows ts
 
--- how many bytes the rows take
+-- the number of bytes of the rows
 unfoldable pub rowsSize : List Call → ℕ
 rowsSize [] = 0
 rowsSize (c ∷ cs) = rowSize + rowsSize cs
@@ -44,7 +44,7 @@ pub record EncodedOutcome : Type 0 where
 abbrev pub kept : ℕ → Station → List ℕ → List ℕ → EncodedOutcome
 kept number st arena answers = record { answer = refused number; station = st; arena = arena; answers = answers }
 
--- every call is made: the rows stand at the front of the answers, and the bytes after them keep their values
+-- every call is made: the rows are at the front of the answers, and the bytes after them keep their values
 unfoldable pub ran : Station → List Call → List ℕ → EncodedOutcome
 ran st cs answers =
     record {

@@ -216,7 +216,7 @@ module _ (st : Station) (s a w : List ℕ) where
       go malformed e q = by e
       go (calls cs) e q = absurd (let z : _≡_ {A = ℕ} 0 1 = cc in omega arith)
 
-  -- the calls, and how many bytes of answers they give
+  -- the calls, and the number of bytes of answers that they give
   record Calls (n : ℕ) : Type 0 where
     made : List Call
     decoded : decode s a ≡ calls made

@@ -39,7 +39,7 @@ enum Checked {
     Answers(usize),
 }
 
-// Whether the encoded calls are whole for an arena of `room` bytes, and how many bytes of answers they give.
+// Whether the encoded calls are whole for an arena of `room` bytes, and the number of bytes of answers that they give.
 fn check(encoded: &[u8], room: usize) -> Checked
     ensures { λ r. ⌜ CheckPromise (now (encoded .entry)) room r ⌝ }
 {
@@ -155,7 +155,7 @@ fn perform(station: Station, encoded: &[u8], arena: &mut [u8], answers: &mut [u8
     }
 }
 
-// Makes encoded calls. The answers stand end to end at the front of `answers`; the buffers that calls are lent lie end to end in `arena`. A refusal changes nothing.
+// Makes encoded calls. The answers are end to end at the front of `answers`; the buffers that calls are lent lie end to end in `arena`. A refusal changes nothing.
 pub fn run_encoded(
     station: Station,
     encoded: &[u8],

@@ -13,11 +13,11 @@ use report::Device;
 use report::FeatureIndex;
 use station::Station;
 
-// The head of a call: its kind, how many bytes it lends, the device, byte 2, byte 3, the ticks, and two bytes that
+// The head of a call: its kind, the number of bytes that it lends, the device, byte 2, byte 3, the ticks, and two bytes that
 // are not looked at.
 const HEAD: usize = 8;
 
-// A call lends fewer bytes than this; they stand behind its head.
+// A call lends fewer bytes than this; they follow its head.
 const ROOM: u8 = 64;
 
 const CALL: usize = HEAD + ROOM as usize;

@@ -23,22 +23,6 @@ abbrev put-decimal-below : ℕ → In 1 put-decimal-kinds.ps
 put-decimal-below t =
     and 1 put-decimal-kinds.ps (falls 1 put-decimal-kinds.ps _<_ μ-put-decimal t) put-decimal.Pre
 
-put-decimal-put-digit-requires : (t : ℕ) → put-decimal-lts.Need-put-digit-requires (
-  put-digit-reads.Asked,
-  put-digit-reads.Learnt,
-  put-decimal-below t,
-  put-decimal.Post,
-) (put-decimal-at t) put-decimal.Post
-put-decimal-put-digit-requires t c κs = omega arith
-
-put-decimal-same-length : (t : ℕ) → put-decimal-lts.Need-same-length (
-  put-digit-reads.Asked,
-  put-digit-reads.Learnt,
-  put-decimal-below t,
-  put-decimal.Post,
-) (put-decimal-at t) put-decimal.Post
-put-decimal-same-length t c = search needs
-
 put-decimal-returns : (t : ℕ) → put-decimal-lts.Need-returns (
   put-digit-reads.Asked,
   put-digit-reads.Learnt,
@@ -54,22 +38,6 @@ put-decimal-put-decimal-requires : (t : ℕ) → put-decimal-lts.Need-put-decima
   put-decimal.Post,
 ) (put-decimal-at t) put-decimal.Post
 put-decimal-put-decimal-requires t c κs = (omega (arith, c .before .before .before .pre .0), tt)
-
-put-decimal-put-digit-requires-2 : (t : ℕ) → put-decimal-lts.Need-put-digit-requires-2 (
-  put-digit-reads.Asked,
-  put-digit-reads.Learnt,
-  put-decimal-below t,
-  put-decimal.Post,
-) (put-decimal-at t) put-decimal.Post
-put-decimal-put-digit-requires-2 t c κs = omega arith
-
-put-decimal-same-length-2 : (t : ℕ) → put-decimal-lts.Need-same-length-2 (
-  put-digit-reads.Asked,
-  put-digit-reads.Learnt,
-  put-decimal-below t,
-  put-decimal.Post,
-) (put-decimal-at t) put-decimal.Post
-put-decimal-same-length-2 t c = search needs
 
 put-decimal-returns-2 : (t : ℕ) → put-decimal-lts.Need-returns-2 (
   put-digit-reads.Asked,
@@ -88,10 +56,10 @@ pub +put-decimal-spec : {M : Type 1} → statement M
 )
     (put-decimal-at t)
     put-decimal.Post
-    (put-decimal-put-digit-requires t)
-    (put-decimal-same-length t)
+    (λ c κs. omega arith)
+    (λ c. search needs)
     (put-decimal-returns t)
     (put-decimal-put-decimal-requires t)
-    (put-decimal-put-digit-requires-2 t)
-    (put-decimal-same-length-2 t)
+    (λ c κs. omega arith)
+    (λ c. search needs)
     (put-decimal-returns-2 t)

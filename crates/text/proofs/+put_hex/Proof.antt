@@ -29,14 +29,6 @@ put-hex-returns : (t : ℕ) → put-hex-lts.Need-returns (
 ) (put-hex-at t) put-hex.Post
 put-hex-returns t c = hex-none-put _ _ _ _ (c .if1 .taken)
 
-put-hex-sub-put-hex : (t : ℕ) → put-hex-lts.Need-sub-put-hex (
-  put-hex-below t,
-  put-hex.Post,
-  put-digit-reads.Asked,
-  put-digit-reads.Learnt,
-) (put-hex-at t) put-hex.Post
-put-hex-sub-put-hex t c = omega arith
-
 put-hex-put-hex-requires : (t : ℕ) → put-hex-lts.Need-put-hex-requires (
   put-hex-below t,
   put-hex.Post,
@@ -44,22 +36,6 @@ put-hex-put-hex-requires : (t : ℕ) → put-hex-lts.Need-put-hex-requires (
   put-digit-reads.Learnt,
 ) (put-hex-at t) put-hex.Post
 put-hex-put-hex-requires t c κs = (omega (arith, c .before .before .before .pre .0), tt)
-
-put-hex-put-digit-requires : (t : ℕ) → put-hex-lts.Need-put-digit-requires (
-  put-hex-below t,
-  put-hex.Post,
-  put-digit-reads.Asked,
-  put-digit-reads.Learnt,
-) (put-hex-at t) put-hex.Post
-put-hex-put-digit-requires t c κs = omega arith
-
-put-hex-same-length : (t : ℕ) → put-hex-lts.Need-same-length (
-  put-hex-below t,
-  put-hex.Post,
-  put-digit-reads.Asked,
-  put-digit-reads.Learnt,
-) (put-hex-at t) put-hex.Post
-put-hex-same-length t c = search needs
 
 put-hex-returns-2 : (t : ℕ) → put-hex-lts.Need-returns-2 (
   put-hex-below t,
@@ -79,8 +55,8 @@ pub +put-hex-spec : {M : Type 1} → statement M
     (put-hex-at t)
     put-hex.Post
     (put-hex-returns t)
-    (put-hex-sub-put-hex t)
+    (λ c. omega arith)
     (put-hex-put-hex-requires t)
-    (put-hex-put-digit-requires t)
-    (put-hex-same-length t)
+    (λ c κs. omega arith)
+    (λ c. search needs)
     (put-hex-returns-2 t)
