@@ -13,6 +13,7 @@ BEGIN {
     size["21"] = 32
     longest = 256 # the bytes that a line of a script may have
     hex_byte = "^[0-9A-Fa-f][0-9A-Fa-f]$"
+    script_word = "^(take|request|cancel|tick|switch|get-paired|led|list|read|frame|mouse|dump)$"
     usbmon_line = "^[0-9a-f]+ [0-9]+ [SCE] [CZIB][io]:[0-9:]+ "
     split(device, part, ":")
     if (device != "") device = part[1] + 0 ":" part[2] + 0
@@ -23,6 +24,7 @@ from == "binary" { byte(toupper($1)); fflush(); next }
 /^[ \t]*$/ { next }
 /^[ \t]*#/ { sub(/^[ \t]+/, ""); print; fflush(); next }
 from == "" { from = form_of($0) }
+from == "" && $1 ~ script_word { unused("line", "already a line of a script; give the file to replay"); next }
 from == "" { unused("line", "in no known form"); next }
 from == "hid-recorder" { recorded() }
 from == "usbmon" { monitored() }
