@@ -126,7 +126,7 @@ typedef struct blotterfinch_movement {
 } blotterfinch_movement;
 
 /* The length of a report or frame by its byte 0, the id: 7, 20, 15 or 32; 0 where there is no such id. A
- * stream of whole reports is cut by it: look at the first byte, take so many bytes, go on behind them. */
+ * stream of whole reports is cut by it: look at the first byte, take so many bytes, go on after them. */
 static inline size_t blotterfinch_report_length(uint8_t id)
 {
     switch (id) {

@@ -3,7 +3,7 @@
 #   call NUMBER LINE COMMENTS    a line of the script, with the comment lines before it
 #   more                         a further line of the same answer
 #   mouse                        an added line: the movement of the report before it
-#   records NUMBER               an added `dump` behind a report: a port's line each
+#   records NUMBER               an added `dump` after a report: a port's line each
 #   end COMMENTS                 the added `dump` at the end: a port's line each
 # Fields are parted by the byte 1F; so are comment lines, which come last.
 
@@ -41,7 +41,7 @@ function shown(line) {
     return line
 }
 
-# The payload of a mouse report is the seven bytes behind its type. What changes a record is no radio report.
+# The payload of a mouse report is the seven bytes after its type. What changes a record is no radio report.
 function add(    i) {
     if ($2 ~ /^2[01]$/ && $4 == "02") {
         record = record "\n" "mouse"

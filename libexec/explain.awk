@@ -31,7 +31,7 @@ what == "end" { at_end($0) }
 
 END {
     if (more) say("replay answered more than it was asked")
-    else if (lost || ended != ports) say("replay ended early" (number ? ", at line " number " or behind it" : ""))
+    else if (lost || ended != ports) say("replay ended early" (number ? ", at line " number " or after it" : ""))
     if (more || ended != ports) exit 1
     summary()
 }
@@ -106,7 +106,7 @@ function ticked(answer,    n, i, text) {
     explain(n ? count(n, "request") " ended without a reply: " text : "time passed; no request ended")
 }
 
-# The listing as text: the bytes behind PLACE.
+# The listing as text: the bytes from PLACE on.
 function listing(answer,    i, n, text) {
     n = split(answer, sides, " ")
     for (i = 3 + word[2]; i < 3 + word[2] + sides[2] && i <= n; i++) text = text sprintf("%c", decimal(sides[i]))

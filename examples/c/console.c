@@ -28,7 +28,7 @@ static void show_report(const uint8_t *bytes, size_t length)
         show_mouse(bytes + r.start);
 }
 
-/* Whole reports, one behind the other. What is left at the end is less than a report, or has no id. */
+/* Whole reports, one after the other. What is left at the end is less than a report, or has no id. */
 static void show_stream(const uint8_t *bytes, size_t length)
 {
     while (length > 0) {
