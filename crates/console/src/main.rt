@@ -1,5 +1,6 @@
 // An example to copy: takes the whole reports on standard input, of at most 65536 bytes, on one station, says what each was, and prints the port listing.
 ghost use mathlib.Core.Path.{_≡_};
+ghost use Prim.Native.Nat.{_≤_};
 ghost use Rattle.station.specs.StationTaking.{takeRule};
 use frame::Written;
 use libc::STDIN_FILENO;
@@ -8,31 +9,31 @@ use port::answer::Notice;
 use port::answer::Taken;
 use station::Station;
 
-fn say(word: &[u8], number: u8) {
+fn say(word: &[u8], number: u64) {
     io::write_all(STDOUT_FILENO, word);
-    io::print_decimal(STDOUT_FILENO, number as u64);
+    io::print_decimal(STDOUT_FILENO, number);
     io::write_all(STDOUT_FILENO, b"\n");
 }
 
 fn say_notice(notice: Notice) {
     match notice {
-        Notice::Paired { port, .. } => say(b"paired: device ", port.0),
-        Notice::Unpaired { port, .. } => say(b"unpaired: device ", port.0),
-        Notice::Link { port, .. } => say(b"link: device ", port.0),
-        Notice::Other { port, .. } => say(b"notification of port ", port.0),
+        Notice::Paired { port, .. } => say(b"paired: device ", port.0 as u64),
+        Notice::Unpaired { port, .. } => say(b"unpaired: device ", port.0 as u64),
+        Notice::Link { port, .. } => say(b"link: device ", port.0 as u64),
+        Notice::Other { port, .. } => say(b"notification of port ", port.0 as u64),
         Notice::EmptyList => say(b"paired devices: ", 0),
     }
 }
 
 fn say_answer(answer: Taken) {
     match answer {
-        Taken::Refused(refusal) => say(b"refused with ", refusal.number()),
-        Taken::Reply(about) => say(b"reply of port ", about.port.0),
-        Taken::Stray(about) => say(b"stray of port ", about.port.0),
-        Taken::Plain(about) => say(b"notice of port ", about.port.0),
-        Taken::Event(about) => say(b"event of port ", about.port.0),
-        Taken::Failed { code, .. } => say(b"error ", code),
-        Taken::Radio { kind, .. } => say(b"radio report of type ", kind),
+        Taken::Refused(refusal) => say(b"refused with ", refusal.number() as u64),
+        Taken::Reply(about) => say(b"reply of port ", about.port.0 as u64),
+        Taken::Stray(about) => say(b"stray of port ", about.port.0 as u64),
+        Taken::Plain(about) => say(b"notice of port ", about.port.0 as u64),
+        Taken::Event(about) => say(b"event of port ", about.port.0 as u64),
+        Taken::Failed { code, .. } => say(b"error ", code as u64),
+        Taken::Radio { kind, .. } => say(b"radio report of type ", kind as u64),
         Taken::Noticed(notice) => say_notice(notice),
     }
 }
@@ -47,16 +48,25 @@ fn take_report(station: Station, bytes: &[u8]) -> Station
     taken.station
 }
 
-// A report is as long as its id says. What is left at the end is less than a report, or begins with no id.
+// The length of the report that begins with this id, or 0 where no report does, or where less than that is left.
+fn whole_length(id: u8, left: usize) -> usize
+    ensures { λ r. ⌜ r ≤ left ⌝ }
+{
+    let length = report::length_of(id) as usize;
+    if length > left {
+        return 0;
+    }
+    length
+}
+
 fn take_all(fresh: Station, bytes: &[u8]) -> Station {
     let mut station = fresh;
     let mut at = 0;
     while at < bytes.len() {
-        let length = report::length_of(bytes[at]) as usize;
+        let left = bytes.len() - at;
+        let length = whole_length(bytes[at], left);
         if length == 0 {
-            return station;
-        }
-        if length > bytes.len() - at {
+            say(b"bytes that are no report: ", left as u64);
             return station;
         }
         let end = at + length;

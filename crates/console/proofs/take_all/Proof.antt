@@ -6,10 +6,10 @@ use Rattle.console.proofs.take_all.Statement.{statement}
 use Rattle.console.proofs.take_all.Tie as tie
 
 abbrev Inv-loop : tie.InvT-loop
-Inv-loop bytes station₀ at₀ station at = at ≤ length bytes
+Inv-loop bytes station₀ at₀ words station at = at ≤ length bytes
 
 abbrev μ-loop : tie.MeasureT-loop
-μ-loop bytes station₀ at₀ station at = length bytes - at
+μ-loop bytes station₀ at₀ words station at = length bytes - at
 
 pub take-all-spec : {M : Type 1} → statement M
 take-all-spec =
@@ -19,10 +19,10 @@ take-all-spec =
     μ-loop
     (λ c. search needs)
     (λ c. search needs)
+    (λ c. search needs)
     (λ c κs. search needs)
     (λ c. search needs)
-    (λ c. search needs)
-    (λ c. search needs)
+    (λ c κs. search needs)
     (λ c. search needs)
     (λ c. search needs)
     (λ c. search needs)
