@@ -1,9 +1,12 @@
 -- Demand 3, whole: document 01, "Sequences of calls". One place to look.
-use Prim.Native.Nat.{ℕ, _≤_, _<_}
+use Prim.Native.Nat.{ℕ, _≤_}
 use mathlib.Core.Path.{_≡_}
+use mathlib.Core.Bool.{true}
 use mathlib.Core.List.{List}
 use lib.ListN.{length}
-use Rattle.station.specs.Stations.{portCount, freshStation}
+use Rattle.report.specs.Ports.{isPort}
+use Rattle.station.specs.declared.Station.{Station}
+use Rattle.sequence.specs.Starts.{Start}
 use Rattle.sequence.specs.Steps.{Call, run}
 use Rattle.sequence.specs.Independence as ports
 use Rattle.sequence.specs.Histories as program
@@ -15,12 +18,12 @@ use Rattle.encoded.specs.EncodedContracts.{outcomeOf, EncodedPromise}
 
 pub record Demand3 : Type 0 where
   -- for every list of calls and each of the seven ports: strike out every call for another port or for none, keep the ticks; the port then holds what it holds after the full run, and each call left has the same answer and leaves the same lent bytes, of a tick that port's count
-  pub alone : (p : ℕ) → p < portCount → (cs : List Call) → ports.Alone p cs
+  pub alone : (n : ℕ) → isPort n ≡ true → (st : Station) → Start st → (cs : List Call) → ports.Alone n st cs
   -- any two orders from which striking out leaves, for each port, the same calls in the same order end in the same station
-  pub orders : (cs ds : List Call) → ports.SameOrders cs ds → run freshStation cs ≡ run freshStation ds
-  -- every history of the program's calls, of any length, from a fresh station: every answer, every lent byte and the final station are those of the rules' run
-  pub program : (ms : List program.Made) → program.Kept freshStation ms → program.ByTheRules freshStation ms
+  pub orders : (st : Station) → Start st → (cs ds : List Call) → ports.SameOrders st cs ds → run st cs ≡ run st ds
+  -- every history of the program's calls, of any length, from any station: every answer, every lent byte and the final station are those of the rules' run
+  pub program : (st : Station) (ms : List program.Made) → program.History st ms → program.ByTheRules st ms
   -- a run of encoded calls by the program: the final station, every lent byte and every row of the answers are those of the rules' run of the calls
-  pub run-encoded : (encoded arena answers : List ℕ) (r : RunResult) (arenaAfter answersAfter : List ℕ) → EncodedPromise freshStation encoded arena answers r arenaAfter answersAfter → (cs : List Call) → decode encoded arena ≡ calls cs → rowsSize cs ≤ length answers → outcomeOf r arenaAfter answersAfter ≡ ran freshStation cs answers
+  pub run-encoded : (st : Station) (encoded arena answers : List ℕ) (r : RunResult) (arenaAfter answersAfter : List ℕ) → EncodedPromise st encoded arena answers r arenaAfter answersAfter → (cs : List Call) → decode encoded arena ≡ calls cs → rowsSize cs ≤ length answers → outcomeOf r arenaAfter answersAfter ≡ ran st cs answers
   -- every list of calls within the encoding's bounds has an encoding
   pub encoded : (cs : List Call) → AllWithin cs → Encoded cs

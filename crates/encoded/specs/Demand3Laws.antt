@@ -1,7 +1,6 @@
 -- Demand 3 holds.
 use mathlib.Core.Path.{_∙_, ap}
 use borrow.Author.Tests.{le-leb}
-use Rattle.station.specs.Stations.{freshStation}
 use Rattle.sequence.specs.IndependenceLaws as ports
 use Rattle.sequence.specs.HistoriesLaws as program
 use Rattle.encoded.specs.Decoding.{Decoded}
@@ -13,9 +12,9 @@ pub demand3 : Demand3
 unfolding encodedRule encodedBy
 demand3 =
     record {
-      alone = λ p h cs. ports.alone p cs;
+      alone = ports.alone;
       orders = ports.orders;
-      program = program.history freshStation;
-      run-encoded = λ encoded arena answers r arenaAfter answersAfter kept cs decoded room. kept ∙ ap (λ (d : Decoded). encodedBy d freshStation arena answers) decoded ∙ (simp (le-leb _ _ room));
+      program = program.history;
+      run-encoded = λ st encoded arena answers r arenaAfter answersAfter kept cs decoded room. kept ∙ ap (λ (d : Decoded). encodedBy d st arena answers) decoded ∙ (simp (le-leb _ _ room));
       encoded = encodes;
     }

@@ -1,41 +1,54 @@
--- Document 01, "Refusal numbers" (4, 5 and 6): laws of a report that is read.
+-- Document 01, "Report sizes and bytes" and "Refusal numbers" (1 to 6): laws of a report that is read.
 use Prim.Native.Nat.{ℕ, _≤_, _<_}
 use mathlib.Core.Path.{_≡_, refl}
-use mathlib.Core.Bool.{Bool, true, false, not}
+use mathlib.Core.Bool.{Bool, true, false, cond, not, _||_, false≢true}
 use mathlib.Core.List.{List}
 use native.Mathlib.Omega.{arith}
 use lib.ListN.{length}
 use lib.Dec.{leb, eqb}
 use borrow.Author.Tests.{leb-true, leb-false, le-leb, eqb-false, not-false}
 use Rattle.report.specs.ChoicesLaws.{by-case, both, neither}
-use Rattle.report.specs.Ports.{inRange, isDevice, isPort}
+use Rattle.report.specs.Ports.{receiver, inRange, isDevice, isPort}
 use Rattle.report.specs.Sizes.{byte, isHidpp, isReportId, lengthOf, hidppStart, djStart}
-use Rattle.report.specs.Reading.{Report, isReserved, goesDown, isEmptyList, hasPort, reportFrom, hidppRule, djRule, familyRule, readRule}
+use Rattle.report.specs.Reading.{Report, Read, isReserved, goesDown, isEmptyList, hasPort, reportFrom, hidppRule, djRule, familyRule, readRule}
 use Rattle.hidpp.specs.HidppTaking.{isError}
 use Rattle.station.specs.Stations.{receiverPosition, positionOf}
 use Rattle.station.specs.StationsLaws.{device-number, device-position}
-use Rattle.reach.specs.Readings.{ReadFits}
+use Rattle.sequence.specs.Readings.{ReadFits}
 
-hidpp-fits : (r : Report) → ReadFits (hidppRule r)
-unfolding hidppRule
-hidpp-fits r =
-    by-case ReadFits (not (isPort (r .device))) (λ e. tt)
-    (λ e. by-case ReadFits (isReserved (r .byte2)) (λ q. tt) (λ q. (not-false (isPort (r .device)) e, q)))
+module _ (bytes : List ℕ) where
+  abbrev Fits : Read → Type 0
+  Fits = ReadFits bytes
 
-dj-fits : (r : Report) → ReadFits (djRule r)
-unfolding djRule
-dj-fits r =
-    by-case ReadFits (goesDown (r .byte2)) (λ e. tt)
-    (λ e. by-case ReadFits (isEmptyList (r .byte2) (r .byte3)) (λ q. q)
-    (λ q. by-case ReadFits (not (hasPort (r .device) (r .byte2))) (λ z. tt) (λ z. (e, not-false (hasPort (r .device) (r .byte2)) z))))
+  hidpp-fits : (r : Report) → r ≡ reportFrom hidppStart bytes → Fits (hidppRule r)
+  unfolding hidppRule
+  hidpp-fits r s =
+      by-case Fits (not (isPort (r .device))) (λ e. refl)
+      (λ e. by-case Fits (isReserved (r .byte2)) (λ q. refl) (λ q. (not-false (isPort (r .device)) e, (q, s))))
 
-pub read-fits : (bytes : List ℕ) → ReadFits (readRule bytes)
-unfolding readRule familyRule
-read-fits bytes =
-    by-case ReadFits (eqb (length bytes) 0) (λ e. tt)
-    (λ e. by-case ReadFits (not (isReportId (byte bytes 0))) (λ e. tt)
-    (λ e. by-case ReadFits (not (eqb (length bytes) (lengthOf (byte bytes 0)))) (λ e. tt)
-    (λ e. by-case ReadFits (isHidpp (byte bytes 0)) (λ e. hidpp-fits (reportFrom hidppStart bytes)) (λ e. dj-fits (reportFrom djStart bytes)))))
+  dj-fits : (r : Report) → r ≡ reportFrom djStart bytes → Fits (djRule r)
+  unfolding djRule
+  dj-fits r s =
+      by-case Fits (goesDown (r .byte2)) (λ e. refl)
+      (λ e. by-case Fits (isEmptyList (r .byte2) (r .byte3)) (λ q. (q, s))
+      (λ q. by-case Fits (not (hasPort (r .device) (r .byte2))) (λ z. refl) (λ z. (e, (not-false (hasPort (r .device) (r .byte2)) z, s)))))
+
+  pub read-fits : ReadFits bytes (readRule bytes)
+  unfolding readRule familyRule
+  read-fits =
+      by-case Fits (eqb (length bytes) 0) (λ e. refl)
+      (λ e. by-case Fits (not (isReportId (byte bytes 0))) (λ q. refl)
+      (λ q. by-case Fits (not (eqb (length bytes) (lengthOf (byte bytes 0)))) (λ z. refl)
+      (λ z. by-case Fits (isHidpp (byte bytes 0)) (λ y. hidpp-fits (reportFrom hidppStart bytes) refl) (λ y. dj-fits (reportFrom djStart bytes) refl))))
+
+-- what takes a DJ report is a port
+pub dj-port : (device kind : ℕ) → hasPort device kind ≡ true → isPort device ≡ true
+dj-port device kind = go (leb kind 0x42) (isDevice device)
+  where
+    go : (b d : Bool) → cond b d (d || eqb device receiver) ≡ true → (d || eqb device receiver) ≡ true
+    go true true e = refl
+    go true false e = absurd (false≢true e)
+    go false d e = e
 
 -- the receiver is sent no radio report, and none of 0x40, 0x41 and 0x42
 pub receiver-kind : (device kind : ℕ) → hasPort device kind ≡ true → positionOf device ≡ receiverPosition → 0x42 < kind
