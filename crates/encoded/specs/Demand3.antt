@@ -1,4 +1,4 @@
--- Demand 3, whole: document 01, "Sequences of calls". One place to look.
+-- Document 01, "Sequences of calls", of the rules and of runs of encoded calls. Crate demands states it of the program's own calls.
 use Prim.Native.Nat.{ℕ, _≤_}
 use mathlib.Core.Path.{_≡_}
 use mathlib.Core.Bool.{true}
@@ -6,14 +6,15 @@ use mathlib.Core.List.{List}
 use lib.ListN.{length}
 use Rattle.report.specs.Ports.{isPort}
 use Rattle.station.specs.declared.Station.{Station}
+use Rattle.station.specs.Stations.{portCount}
 use Rattle.sequence.specs.Starts.{Start}
-use Rattle.sequence.specs.Steps.{Call, run}
+use Rattle.sequence.specs.Steps.{Call, run, returnedBy}
 use Rattle.sequence.specs.Independence as ports
 use Rattle.sequence.specs.Histories as program
 use Rattle.encoded.specs.declared.RunResult.{RunResult}
 use Rattle.encoded.specs.Decoding.{calls, decode}
-use Rattle.encoded.specs.Encoding.{AllWithin, Encoded}
-use Rattle.encoded.specs.EncodedRuns.{rowsSize, ran}
+use Rattle.encoded.specs.Encoding.{Bytes, AllWithin, Encoded}
+use Rattle.encoded.specs.EncodedRuns.{AllFit, ReadsBack, rowsSize, ran}
 use Rattle.encoded.specs.EncodedContracts.{outcomeOf, EncodedPromise}
 
 pub record Demand3 : Type 0 where
@@ -27,3 +28,10 @@ pub record Demand3 : Type 0 where
   pub run-encoded : (st : Station) (encoded arena answers : List ℕ) (r : RunResult) (arenaAfter answersAfter : List ℕ) → EncodedPromise st encoded arena answers r arenaAfter answersAfter → (cs : List Call) → decode encoded arena ≡ calls cs → rowsSize cs ≤ length answers → outcomeOf r arenaAfter answersAfter ≡ ran st cs answers
   -- every list of calls within the encoding's bounds has an encoding
   pub encoded : (cs : List Call) → AllWithin cs → Encoded cs
+  -- and the calls that bytes decode to are within them
+  pub within : (encoded arena : List ℕ) → Bytes encoded → Bytes arena → (cs : List Call) → decode encoded arena ≡ calls cs → AllWithin cs
+  -- from any station with its seven ports, every answer to calls within those bounds fits its row, so the rows that a run leaves at the front of the answers read back as the answers
+  pub rows-fit : (st : Station) → length (st .ports) ≡ portCount → (cs : List Call) → AllWithin cs → AllFit (returnedBy st cs)
+  pub rows-read-back : (st : Station) → length (st .ports) ≡ portCount → (cs : List Call) → AllWithin cs → (answers : List ℕ) → ReadsBack st cs (ran st cs answers .answers)
+  -- and so do those that the program leaves, whatever bytes it was given
+  pub program-rows : (st : Station) → length (st .ports) ≡ portCount → (encoded arena answers : List ℕ) (r : RunResult) (arenaAfter answersAfter : List ℕ) → EncodedPromise st encoded arena answers r arenaAfter answersAfter → (cs : List Call) → decode encoded arena ≡ calls cs → rowsSize cs ≤ length answers → Bytes encoded → Bytes arena → ReadsBack st cs answersAfter
