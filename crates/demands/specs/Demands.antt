@@ -1,20 +1,21 @@
 -- The three demands, as one statement about the program: a field for each sentence, in our words. A call that the program made is given with what its function was proved to ensure, its contract itself (`Ensured`, in crate sequence, Histories). Ports are named by their numbers, 1 to 6 and 255. The premise `Reached` holds after every sequence of calls (the field `reached`).
-use Prim.Native.Nat.{ℕ}
+use Prim.Native.Nat.{ℕ, _≤_}
 use mathlib.Core.Path.{_≡_}
 use mathlib.Core.Logic.{_↔_}
 use mathlib.Core.Bool.{true, cond}
 use mathlib.Core.List.{List, _++_, map}
-use lib.ListN.{getD}
+use lib.ListN.{length, getD}
+use denote.Ref.{RefT, now}
 use Rattle.report.specs.Ports.{isPort}
 use Rattle.report.specs.Reading.{readRule}
 use Rattle.port.specs.Records.{emptyPlace, requestIn}
 use Rattle.port.specs.PortContracts.{takenOf}
 use Rattle.station.specs.declared.Station.{Station}
 use Rattle.station.specs.declared.TakeResult.{TakeResult}
-use Rattle.station.specs.Stations.{positionOf}
+use Rattle.station.specs.Stations.{portCount, positionOf}
 use Rattle.station.proofs.Station.new.Reads as new-reads
 use Rattle.sequence.specs.Starts.{Start}
-use Rattle.sequence.specs.Steps.{readOf, lentOf, ticked, Outcome, step, run, returned}
+use Rattle.sequence.specs.Steps.{Call, readOf, lentOf, ticked, Outcome, step, run, returned}
 use Rattle.sequence.specs.Targets.{one, all, labelOf}
 use Rattle.sequence.specs.Sentence.{sentence}
 use Rattle.sequence.specs.Refused.{isRefusal}
@@ -27,6 +28,12 @@ use Rattle.reach.specs.RefusalTable.{ByTheTable}
 use Rattle.reach.specs.Completion.{isReply, isFailure, isHidppRead, Replies, Fails, endsIn}
 use Rattle.reach.specs.Ends.{EndsAt, Accounted}
 use Rattle.reach.specs.Fields.{ChangesListed}
+use Rattle.encoded.specs.declared.RunResult.{RunResult}
+use Rattle.encoded.specs.Decoding.{calls, decode}
+use Rattle.encoded.specs.Encoding.{Bytes}
+use Rattle.encoded.specs.EncodedRuns.{rowsSize, ran, ReadsBack}
+use Rattle.encoded.specs.EncodedContracts.{outcomeOf}
+use Rattle.encoded.proofs.run_encoded.Reads as run-reads
 use Rattle.demands.specs.WithoutStation.{WithoutStation}
 
 pub record Demands : Type 0 where
@@ -70,3 +77,6 @@ pub record Demands : Type 0 where
   pub cut : (st : Station) (ms ns : List Made) → History st (ms ++ ns) → History st ms × History (last st ms) ns
   -- Over every history and for each port: requests accepted are those answered by reply, by error, expired, cancelled, dropped, and those that wait, counted from the answers given
   pub accounted : (n : ℕ) → isPort n ≡ true → (st : Station) → Start st → (ms : List Made) → History st ms → Accounted n (made st ms) (view n (last st ms))
+  -- A run of encoded calls by the program, `encoded::run_encoded`: where the bytes are calls and there is room for their answers, the final station, every lent byte and every row are those of the rules' run; and the rows read back as the answers
+  pub runs : (κ κ′ κ″ : List ℕ) (st : Station) (encoded arena arenaAfter answers answersAfter : RefT (List ℕ)) (r : RunResult) → run-reads.Learnt (κ, (κ′, (κ″, tt))) (st, (encoded, (arena, (answers, tt)))) r (st, (encoded, (arenaAfter, (answersAfter, tt)))) → (cs : List Call) → decode (now encoded) (now arena) ≡ calls cs → rowsSize cs ≤ length (now answers) → outcomeOf r (now arenaAfter) (now answersAfter) ≡ ran st cs (now answers)
+  pub rows : (κ κ′ κ″ : List ℕ) (st : Station) (encoded arena arenaAfter answers answersAfter : RefT (List ℕ)) (r : RunResult) → run-reads.Learnt (κ, (κ′, (κ″, tt))) (st, (encoded, (arena, (answers, tt)))) r (st, (encoded, (arenaAfter, (answersAfter, tt)))) → length (st .ports) ≡ portCount → (cs : List Call) → decode (now encoded) (now arena) ≡ calls cs → rowsSize cs ≤ length (now answers) → Bytes (now encoded) → Bytes (now arena) → ReadsBack st cs (now answersAfter)

@@ -1,9 +1,9 @@
 -- What a console's author reads off the demands: each field of the statement is used here, in other words, so that none of them can say less.
-use Prim.Native.Nat.{ℕ, _+_, _<_}
+use Prim.Native.Nat.{ℕ, _+_, _≤_, _<_}
 use mathlib.Core.Path.{_≡_, refl, sym, _∙_, ap}
 use mathlib.Core.Bool.{Bool, true, false, cond, not, _&&_, false≢true}
 use mathlib.Core.List.{List, [], _∷_, _++_, map}
-use lib.ListN.{getD}
+use lib.ListN.{length, getD}
 use lib.Dec.{eqb}
 use borrow.Author.Tests.{eqb-true, not-true}
 use Rattle.report.specs.ChoicesLaws.{both}
@@ -32,7 +32,7 @@ use Rattle.station.specs.declared.TickResult.{TickResult}
 use Rattle.station.specs.Stations.{portCount, positionOf, portAt}
 use Rattle.station.proofs.Station.new.Reads as new-reads
 use Rattle.sequence.specs.Starts.{Start}
-use Rattle.sequence.specs.Steps.{led, request, take, tick, taken, written, ticked, Outcome, step, run, returned}
+use Rattle.sequence.specs.Steps.{Call, led, request, take, tick, taken, written, ticked, Outcome, step, run, returned}
 use Rattle.sequence.specs.Targets.{one, all, labelOf}
 use Rattle.sequence.specs.Sentence.{sentence}
 use Rattle.sequence.specs.Refused.{isRefusal}
@@ -45,6 +45,11 @@ use Rattle.reach.specs.RefusalTable.{led5, Row, RefusedWith}
 use Rattle.reach.specs.Completion.{isReply, isFailure, isHidppRead, Replies, Fails, readEnds, endsIn}
 use Rattle.reach.specs.Ends.{byReply, byError, byExpiry, byCancel, byDrop, endingOf, endedOn, waitingOn, endedIn, begunIn}
 use Rattle.reach.specs.Fields.{battery}
+use Rattle.encoded.specs.declared.RunResult.{RunResult}
+use Rattle.encoded.specs.Decoding.{calls, decode}
+use Rattle.encoded.specs.Encoding.{Bytes}
+use Rattle.encoded.specs.EncodedRuns.{rowsSize, EncodedOutcome, ran, ReadsBack}
+use Rattle.encoded.proofs.run_encoded.Reads as run-reads
 use Rattle.demands.specs.Demands.{Demands}
 
 -- a report that names another device ends no request here
@@ -163,6 +168,16 @@ module _ (d : Demands) where
   last-made : (st : Station) (ms : List Made) (m : Made) → History st (ms ++ (m ∷ [])) → Ensured (last st ms) m
   unfolding History
   last-made st ms m k = d .cut st ms (m ∷ []) k .1 .0
+
+  -- encoded calls end with the station of the rules' run, and their rows are its answers
+  module _ (κ κ′ κ″ : List ℕ) (st : Station) (encoded arena arenaAfter answers answersAfter : RefT (List ℕ)) (r : RunResult) (e : run-reads.Learnt (κ, (κ′, (κ″, tt))) (st, (encoded, (arena, (answers, tt)))) r (st, (encoded, (arenaAfter, (answersAfter, tt))))) (cs : List Call) (decoded : decode (now encoded) (now arena) ≡ calls cs) (room : rowsSize cs ≤ length (now answers)) where
+    run-ends : r .station ≡ run st cs
+    unfolding ran
+    run-ends = ap (λ (o : EncodedOutcome). o .station) (d .runs κ κ′ κ″ st encoded arena arenaAfter answers answersAfter r e cs decoded room)
+
+    rows-are-answers : length (st .ports) ≡ portCount → Bytes (now encoded) → Bytes (now arena) → ReadsBack st cs (now answersAfter)
+    rows-are-answers seven =
+        d .rows κ κ′ κ″ st encoded arena arenaAfter answers answersAfter r e seven cs decoded room
 
 -- on a station that calls reach no request waits whose byte 2 no request may have
 no-request-84 : (st : Station) → Reached st → (byte3 position place : ℕ) → position < portCount → matches 0x84 byte3 (requestIn (portAt st position .places) place) ≡ false

@@ -3,6 +3,7 @@ use Prim.Native.Nat.{ℕ}
 use mathlib.Core.Path.{_≡_, sym, _∙_, ap, subst}
 use mathlib.Core.Bool.{true}
 use mathlib.Core.List.{List, map}
+use denote.Ref.{now}
 use Rattle.port.specs.PortContracts.{takenOf}
 use Rattle.station.specs.declared.Station.{Station}
 use Rattle.station.specs.declared.TakeResult.{TakeResult}
@@ -24,6 +25,7 @@ use Rattle.reach.specs.Completion.{Completion}
 use Rattle.reach.specs.Ends.{EndsAt, Accounted}
 use Rattle.reach.specs.Fields.{ChangesListed}
 use Rattle.reach.specs.CompleteLaws.{complete}
+use Rattle.encoded.specs.Demand3Laws.{demand3}
 use Rattle.demands.specs.WithoutStation.{WithoutStation}
 use Rattle.demands.specs.Demands.{Demands}
 
@@ -81,6 +83,8 @@ demands =
       orders = histories.orders;
       cut = histories.cut;
       accounted = λ n h st begins ms k. let r = histories.history st ms k in accounted-so n st ms (r .entries) (r .station) (complete .accounted n h st begins (map callOf ms));
+      runs = λ κ κ′ κ″ st encoded arena arenaAfter answers answersAfter r e. demand3 .run-encoded st (now encoded) (now arena) (now answers) r (now arenaAfter) (now answersAfter) e;
+      rows = λ κ κ′ κ″ st encoded arena arenaAfter answers answersAfter r e seven. demand3 .program-rows st seven (now encoded) (now arena) (now answers) r (now arenaAfter) (now answersAfter) e;
     }
   where
     accounted-so : (n : ℕ) (st : Station) (ms : List Made) → made st ms ≡ transcript st (map callOf ms) → last st ms ≡ run st (map callOf ms) → Accounted n (transcript st (map callOf ms)) (view n (run st (map callOf ms))) → Accounted n (made st ms) (view n (last st ms))

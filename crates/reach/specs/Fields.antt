@@ -1,4 +1,4 @@
--- Demand 2: "Records change only as 01 lists." Which fields of a port each call may change, by its answer.
+-- Demand 2: records change only as document 01 lists. Which fields of a port each call may change, by its answer.
 use Prim.Native.Nat.{ℕ}
 use mathlib.Core.Path.{_≡_}
 use mathlib.Core.Bool.{Bool, true, false, not, _&&_, _||_}
