@@ -1,4 +1,4 @@
--- The three demands, as one statement about the program: a field for each sentence, in our words. A call that the program made is given with what its function was proved to ensure, its contract itself (`Ensured`, in crate sequence, Histories). Ports are named by their numbers, 1 to 6 and 255. The premise `Reached` holds after every sequence of calls (the field `reached`).
+-- The three demands, as one statement about the program: a field for each sentence, in our words. `Ensured st c o` is what the program's own function was proved to ensure of the call c on the station st with the outcome o, its contract itself (crate sequence, Histories). Ports are named by their numbers, 1 to 6 and 255. The premise `Reached` holds after every sequence of calls (the field `reached`).
 use Prim.Native.Nat.{ℕ, _≤_}
 use mathlib.Core.Path.{_≡_}
 use mathlib.Core.Logic.{_↔_}
@@ -12,16 +12,17 @@ use Rattle.port.specs.Records.{emptyPlace, requestIn}
 use Rattle.port.specs.PortContracts.{takenOf}
 use Rattle.station.specs.declared.Station.{Station}
 use Rattle.station.specs.declared.TakeResult.{TakeResult}
+use Rattle.station.specs.StationContracts.{takeOutcome}
 use Rattle.station.specs.Stations.{portCount, positionOf}
 use Rattle.station.proofs.Station.new.Reads as new-reads
 use Rattle.sequence.specs.Starts.{Start}
-use Rattle.sequence.specs.Steps.{Call, readOf, lentOf, ticked, Outcome, step, run, returned}
-use Rattle.sequence.specs.Targets.{one, all, labelOf}
+use Rattle.sequence.specs.Steps.{Call, take, readOf, lentOf, ticked, Outcome, takeStep, step, run, returned, labelOf}
+use Rattle.sequence.specs.Targets.{one, all}
 use Rattle.sequence.specs.Sentence.{sentence}
 use Rattle.sequence.specs.Refused.{isRefusal}
 use Rattle.sequence.specs.Transcripts.{callsOf, transcript}
 use Rattle.sequence.specs.Remaining.{view, remaining, comparedOf, compared}
-use Rattle.sequence.specs.Histories.{Made, madeTake, callOf, gave, Ensured, History, last, made}
+use Rattle.sequence.specs.Histories.{Ensured, Made, callOf, History, last, made}
 use Rattle.reach.specs.Sound.{Reached}
 use Rattle.reach.specs.CallCases.{AllPlaced}
 use Rattle.reach.specs.RefusalTable.{ByTheTable}
@@ -37,26 +38,26 @@ use Rattle.encoded.proofs.run_encoded.Reads as run-reads
 use Rattle.demands.specs.WithoutStation.{WithoutStation}
 
 pub record Demands : Type 0 where
-  -- Demand 1. Any bytes, any length, any order of calls: every call ends with an answer, and it is the one that the rules give
-  pub answers : (st : Station) (m : Made) → Ensured st m → gave st m ≡ step st (callOf m)
+  -- Demand 1. Any bytes, any length, any order of calls: every call ends with an answer, and its outcome is the one that the rules give
+  pub answers : (st : Station) (c : Call) (o : Outcome) → Ensured st c o → o ≡ step st c
   -- Each call refuses bad input itself: with each number exactly when that number's row of the table holds
-  pub refuses : (st : Station) → AllPlaced st → (m : Made) → Ensured st m → ByTheTable st (callOf m) (gave st m .answer)
+  pub refuses : (st : Station) → AllPlaced st → (c : Call) (o : Outcome) → Ensured st c o → ByTheTable st c (o .answer)
   -- A refused call leaves the station, the bytes lent to be read and the buffer lent to be written as they were
-  pub station-kept : (st : Station) (m : Made) → Ensured st m → isRefusal (gave st m .answer) ≡ true → gave st m .station ≡ st
-  pub bytes-kept : (st : Station) (m : Made) → Ensured st m → isRefusal (gave st m .answer) ≡ true → (gave st m .read ≡ readOf (callOf m)) × (gave st m .lent ≡ lentOf (callOf m))
+  pub station-kept : (st : Station) (c : Call) (o : Outcome) → Ensured st c o → isRefusal (o .answer) ≡ true → o .station ≡ st
+  pub bytes-kept : (st : Station) (c : Call) (o : Outcome) → Ensured st c o → isRefusal (o .answer) ≡ true → (o .read ≡ readOf c) × (o .lent ≡ lentOf c)
   -- Demand 2. Without a station, reports are read and frames are written as the rules say
   pub alone-standing : WithoutStation
   -- A reply completes a request exactly when one waits on the device that byte 1 names with the same bytes 2 and 3
-  pub replies : (st : Station) → Reached st → (bytes : List ℕ) (r : TakeResult) → Ensured st (madeTake bytes r) → (isReply (takenOf (r .answer)) ≡ true) ↔ Replies st bytes
+  pub replies : (st : Station) → Reached st → (bytes : List ℕ) (r : TakeResult) → Ensured st (take bytes) (takeStep bytes (takeOutcome r)) → (isReply (takenOf (r .answer)) ≡ true) ↔ Replies st bytes
   -- An error, exactly when one waits there with the two bytes that the error names, and its kind fits that request
-  pub errors : (st : Station) → Reached st → (bytes : List ℕ) (r : TakeResult) → Ensured st (madeTake bytes r) → (isFailure (takenOf (r .answer)) ≡ true) ↔ Fails st bytes
+  pub errors : (st : Station) → Reached st → (bytes : List ℕ) (r : TakeResult) → Ensured st (take bytes) (takeStep bytes (takeOutcome r)) → (isFailure (takenOf (r .answer)) ≡ true) ↔ Fails st bytes
   -- Each ends that one and no other: of every port, the place of the request that it answers is emptied, and every other place stays. DJ reports complete none, and drop all of a port's requests exactly at 0x40, and at 0x41 with another WPID or for a device that is not paired
-  pub ends : (st : Station) → Reached st → (bytes : List ℕ) (r : TakeResult) → Ensured st (madeTake bytes r) → (n : ℕ) → isPort n ≡ true → (place : ℕ) → requestIn (view n (r .station) .places) place ≡ cond (endsIn st bytes n place) emptyPlace (requestIn (view n st .places) place)
+  pub ends : (st : Station) → Reached st → (bytes : List ℕ) (r : TakeResult) → Ensured st (take bytes) (takeStep bytes (takeOutcome r)) → (n : ℕ) → isPort n ≡ true → (place : ℕ) → requestIn (view n (r .station) .places) place ≡ cond (endsIn st bytes n place) emptyPlace (requestIn (view n st .places) place)
   pub at-most-one : (st : Station) → Reached st → (bytes : List ℕ) → isHidppRead (readRule bytes) ≡ true → (n m i j : ℕ) → isPort n ≡ true → isPort m ≡ true → endsIn st bytes n i ≡ true → endsIn st bytes m j ≡ true → (n ≡ m) × (i ≡ j)
   -- Records change only as document 01 lists: of every port, by every call, a field that is not listed stays
-  pub changes : (st : Station) → Reached st → (m : Made) → Ensured st m → (n : ℕ) → isPort n ≡ true → ChangesListed n (callOf m) (gave st m .answer) (view n st) (view n (gave st m .station))
+  pub changes : (st : Station) → Reached st → (c : Call) (o : Outcome) → Ensured st c o → (n : ℕ) → isPort n ≡ true → ChangesListed n c (o .answer) (view n st) (view n (o .station))
   -- Each count is that of places emptied: what becomes of every place of every port by every call, and the counts for each way in which a request ends
-  pub counts : (st : Station) → Reached st → (m : Made) → Ensured st m → (n : ℕ) → isPort n ≡ true → EndsAt n (callOf m) (gave st m .answer) (view n st) (view n (gave st m .station))
+  pub counts : (st : Station) → Reached st → (c : Call) (o : Outcome) → Ensured st c o → (n : ℕ) → isPort n ≡ true → EndsAt n c (o .answer) (view n st) (view n (o .station))
   -- Demand 3, for every history: calls that the program made, in any order, with any arguments and any lent bytes, refused ones included; the first on a start, which a new station is, each later one on the station that the call before it handed back or left
   pub begins : (r : Station) → new-reads.Learnt tt tt r tt → Start r
   pub reached : (st : Station) → Start st → (ms : List Made) → History st ms → Reached (last st ms)
@@ -64,7 +65,7 @@ pub record Demands : Type 0 where
   pub every-answer : (st : Station) → Start st → (ms : List Made) → History st ms → made st ms ≡ transcript st (map callOf ms)
   pub final-station : (st : Station) → Start st → (ms : List Made) → History st ms → last st ms ≡ run st (map callOf ms)
   -- For each port, strike out every call for another port or for none, and keep the ticks: which calls these are, document 01 says by the answer
-  pub struck : (st : Station) (m : Made) → Ensured st m → labelOf st (callOf m) ≡ sentence (callOf m) (gave st m .answer)
+  pub struck : (st : Station) (c : Call) (o : Outcome) → Ensured st c o → labelOf st c ≡ sentence c (o .answer)
   -- What remains, run from the same start: at its end the port holds exactly what it holds after the full run
   pub holds : (n : ℕ) → isPort n ≡ true → (st : Station) → Start st → (ms ns : List Made) → History st ms → History st ns → map callOf ns ≡ callsOf (remaining n (made st ms)) → view n (last st ms) ≡ view n (last st ns)
   -- Each call that remains gives the same answer and leaves the same lent bytes; of a tick's answer, that port's count is compared

@@ -14,7 +14,7 @@ use Rattle.report.specs.Reading as reading
 use Rattle.report.specs.Reading.{Read, readRule}
 use Rattle.frame.specs.Forbidden.{isAskable}
 use Rattle.frame.specs.declared.Written.{Written}
-use Rattle.frame.specs.FrameContracts.{writtenOf}
+use Rattle.frame.specs.FrameContracts.{writtenOf, writtenOutcome}
 use Rattle.port.specs.declared.Port.{Port}
 use Rattle.port.specs.declared.Request.{Request}
 use Rattle.port.specs.Records.{emptyPlace, requestIn}
@@ -29,16 +29,17 @@ use Rattle.station.specs.declared.TakeResult.{TakeResult}
 use Rattle.station.specs.declared.RequestResult.{RequestResult}
 use Rattle.station.specs.declared.CancelResult.{CancelResult}
 use Rattle.station.specs.declared.TickResult.{TickResult}
+use Rattle.station.specs.StationContracts.{takeOutcome, requestOutcome, cancelOutcome, tickOutcome}
 use Rattle.station.specs.Stations.{portCount, positionOf, portAt}
 use Rattle.station.proofs.Station.new.Reads as new-reads
 use Rattle.sequence.specs.Starts.{Start}
-use Rattle.sequence.specs.Steps.{Call, led, request, take, tick, taken, written, ticked, Outcome, step, run, returned}
-use Rattle.sequence.specs.Targets.{one, all, labelOf}
+use Rattle.sequence.specs.Steps.{led, Call, take, request, cancel, tick, write, taken, written, ticked, Outcome, takeStep, requestStep, cancelStep, tickStep, writeStep, step, run, returned, labelOf}
+use Rattle.sequence.specs.Targets.{one, all}
 use Rattle.sequence.specs.Sentence.{sentence}
 use Rattle.sequence.specs.Refused.{isRefusal}
 use Rattle.sequence.specs.Transcripts.{callsOf, transcript}
 use Rattle.sequence.specs.Remaining.{view, remaining, comparedOf, compared}
-use Rattle.sequence.specs.Histories.{Made, madeTake, madeRequest, madeCancel, madeTick, madeWrite, callOf, gave, Ensured, History, last, made}
+use Rattle.sequence.specs.Histories.{Ensured, Made, callOf, History, last, made}
 use Rattle.reach.specs.Sound.{Reached}
 use Rattle.reach.specs.CallCases.{AllPlaced}
 use Rattle.reach.specs.RefusalTable.{led5, Row, RefusedWith}
@@ -61,31 +62,31 @@ other-device bytes n e (reading.emptyList x) p r = refl
 
 module _ (d : Demands) where
   -- the station that a call hands back is the rules' next one
-  next-station : (st : Station) (m : Made) → Ensured st m → gave st m .station ≡ step st (callOf m) .station
-  next-station st m e = ap (λ (o : Outcome). o .station) (d .answers st m e)
+  next-station : (st : Station) (c : Call) (o : Outcome) → Ensured st c o → o .station ≡ step st c .station
+  next-station st c o e = ap (λ (x : Outcome). x .station) (d .answers st c o e)
 
   -- LEDs of device 7 are refused with 5, whatever else is wrong with the call
-  no-device-7 : (st : Station) → AllPlaced st → (leds offset : ℕ) (lent : List ℕ) (r : Written) (after : List ℕ) → Ensured st (madeWrite (led 7 leds) offset lent r after) → RefusedWith (written (writtenOf r)) 5
+  no-device-7 : (st : Station) → AllPlaced st → (leds offset : ℕ) (lent : List ℕ) (r : Written) (after : List ℕ) → Ensured st (write (led 7 leds) offset lent) (writeStep st (writtenOutcome r after)) → RefusedWith (written (writtenOf r)) 5
   no-device-7 st placed leds offset lent r after e =
-      d .refuses st placed (madeWrite (led 7 leds) offset lent r after) e 5 .1 (led5 refl)
+      d .refuses st placed (write (led 7 leds) offset lent) (writeStep st (writtenOutcome r after)) e 5 .1 (led5 refl)
 
   -- and a number that is answered has its row
-  has-row : (st : Station) → AllPlaced st → (m : Made) → Ensured st m → (number : ℕ) → RefusedWith (gave st m .answer) number → Row st (callOf m) number
-  has-row st placed m e number = d .refuses st placed m e number .0
+  has-row : (st : Station) → AllPlaced st → (c : Call) (o : Outcome) → Ensured st c o → (number : ℕ) → RefusedWith (o .answer) number → Row st c number
+  has-row st placed c o e number = d .refuses st placed c o e number .0
 
   -- a refused request leaves the station, and the buffer
-  module _ (st : Station) (device byte2 byte3 ticks : ℕ) (params : List ℕ) (offset : ℕ) (lent : List ℕ) (r : RequestResult) (after : List ℕ) (e : Ensured st (madeRequest device byte2 byte3 ticks params offset lent r after)) (q : isRefusal (written (writtenOf (r .answer))) ≡ true) where
+  module _ (st : Station) (device byte2 byte3 ticks : ℕ) (params : List ℕ) (offset : ℕ) (lent : List ℕ) (r : RequestResult) (after : List ℕ) (e : Ensured st (request device byte2 byte3 ticks params offset lent) (requestStep params (requestOutcome r after))) (q : isRefusal (written (writtenOf (r .answer))) ≡ true) where
     refused-station : r .station ≡ st
-    refused-station = d .station-kept st (madeRequest device byte2 byte3 ticks params offset lent r after) e q
+    refused-station = d .station-kept st _ _ e q
 
     refused-buffer : after ≡ lent
-    refused-buffer = d .bytes-kept st (madeRequest device byte2 byte3 ticks params offset lent r after) e q .1
+    refused-buffer = d .bytes-kept st _ _ e q .1
 
   -- C reads a report of any length
   c-reads : (κ : List ℕ) (bytes : RefT (List ℕ)) (r : Report) → read-reads.Learnt (κ, tt) (bytes, tt) r (bytes, tt) → r ≡ cReport (readRule (now bytes))
   c-reads = d .alone-standing .read
 
-  module _ (st : Station) (k : Reached st) (bytes : List ℕ) (r : TakeResult) (e : Ensured st (madeTake bytes r)) where
+  module _ (st : Station) (k : Reached st) (bytes : List ℕ) (r : TakeResult) (e : Ensured st (take bytes) (takeStep bytes (takeOutcome r))) where
     -- where one waits its reply completes it, and only there
     reply-completes : Replies st bytes → isReply (takenOf (r .answer)) ≡ true
     reply-completes = d .replies st k bytes r e .1
@@ -109,17 +110,17 @@ module _ (d : Demands) where
     one-at-most = d .at-most-one st k bytes
 
   -- a cancel leaves every battery
-  cancel-keeps-batteries : (st : Station) → Reached st → (device byte2 byte3 : ℕ) (r : CancelResult) → Ensured st (madeCancel device byte2 byte3 r) → (n : ℕ) → isPort n ≡ true → view n (r .station) .battery ≡ view n st .battery
+  cancel-keeps-batteries : (st : Station) → Reached st → (device byte2 byte3 : ℕ) (r : CancelResult) → Ensured st (cancel device byte2 byte3) (cancelStep (cancelOutcome r)) → (n : ℕ) → isPort n ≡ true → view n (r .station) .battery ≡ view n st .battery
   cancel-keeps-batteries st k device byte2 byte3 r e n h =
-      d .changes st k (madeCancel device byte2 byte3 r) e n h battery (go (eqb device n))
+      d .changes st k (cancel device byte2 byte3) (cancelStep (cancelOutcome r)) e n h battery (go (eqb device n))
     where
       go : (b : Bool) → b && false ≡ false
       go true = refl
       go false = refl
 
   -- what a tick says of a port is what it ended there: what waited waits or is counted
-  tick-counts : (st : Station) → Reached st → (r : TickResult) → Ensured st (madeTick r) → (n : ℕ) → isPort n ≡ true → waitingOn (view n (r .station)) + endedOn n (endingOf tick (ticked (r .ended))) ≡ waitingOn (view n st) + 0
-  tick-counts st k r e n h = d .counts st k (madeTick r) e n h .balance
+  tick-counts : (st : Station) → Reached st → (r : TickResult) → Ensured st tick (tickStep (tickOutcome r)) → (n : ℕ) → isPort n ≡ true → waitingOn (view n (r .station)) + endedOn n (endingOf tick (ticked (r .ended))) ≡ waitingOn (view n st) + 0
+  tick-counts st k r e n h = d .counts st k tick (tickStep (tickOutcome r)) e n h .balance
 
   -- the program's new station is where a history begins, and the invariant holds wherever it ends
   new-begins : (r : Station) → new-reads.Learnt tt tt r tt → Start r
@@ -152,9 +153,9 @@ module _ (d : Demands) where
     device-2-accounted = d .accounted 2 refl st begins ms k
 
   -- a radio report is for the device that it names
-  radio-named : (st : Station) (bytes : List ℕ) (r : TakeResult) → Ensured st (madeTake bytes r) → (kind start size : ℕ) → takenOf (r .answer) ≡ answers.radio kind start size → labelOf st (take bytes) ≡ one (byte bytes 1)
+  radio-named : (st : Station) (bytes : List ℕ) (r : TakeResult) → Ensured st (take bytes) (takeStep bytes (takeOutcome r)) → (kind start size : ℕ) → takenOf (r .answer) ≡ answers.radio kind start size → labelOf st (take bytes) ≡ one (byte bytes 1)
   radio-named st bytes r e kind start size q =
-      d .struck st (madeTake bytes r) e ∙ ap (λ (a : answers.Answer). sentence (take bytes) (taken a)) q
+      d .struck st (take bytes) (takeStep bytes (takeOutcome r)) e ∙ ap (λ (a : answers.Answer). sentence (take bytes) (taken a)) q
 
   -- what is compared of a call for one port is its answer and every lent byte; of a tick the port's count
   compared-whole : (o q : Outcome) → comparedOf 2 (one 2) (returned o) ≡ comparedOf 2 (one 2) (returned q) → (o .answer ≡ q .answer) × ((o .read ≡ q .read) × (o .lent ≡ q .lent))
@@ -165,7 +166,7 @@ module _ (d : Demands) where
   compared-count = d .compares-count 255
 
   -- the last call of a history was made on the station that the others left
-  last-made : (st : Station) (ms : List Made) (m : Made) → History st (ms ++ (m ∷ [])) → Ensured (last st ms) m
+  last-made : (st : Station) (ms : List Made) (m : Made) → History st (ms ++ (m ∷ [])) → Ensured (last st ms) (m .call) (m .outcome)
   unfolding History
   last-made st ms m k = d .cut st ms (m ∷ []) k .1 .0
 

@@ -4,19 +4,21 @@ use mathlib.Core.Path.{_≡_, sym, _∙_, ap, subst}
 use mathlib.Core.Bool.{true}
 use mathlib.Core.List.{List, map}
 use denote.Ref.{now}
+use Rattle.port.specs.Answers.{Answer}
 use Rattle.port.specs.PortContracts.{takenOf}
 use Rattle.station.specs.declared.Station.{Station}
 use Rattle.station.specs.declared.TakeResult.{TakeResult}
 use Rattle.station.specs.StationContracts.{takeOutcome}
-use Rattle.station.specs.StationTaking.{TakeOutcome, takeRule}
+use Rattle.station.specs.StationTaking.{takeRule}
 use Rattle.sequence.specs.Starts.{Start, fresh}
-use Rattle.sequence.specs.Steps.{Outcome, step, run}
+use Rattle.sequence.specs.Steps as steps
+use Rattle.sequence.specs.Steps.{Call, take, Outcome, takeStep, step, run}
 use Rattle.sequence.specs.Refused.{isRefusal, Unchanged}
 use Rattle.sequence.specs.Sentence.{sentence}
 use Rattle.sequence.specs.SentenceLaws.{by-answer}
 use Rattle.sequence.specs.Transcripts.{Entry, transcript}
 use Rattle.sequence.specs.Remaining.{view}
-use Rattle.sequence.specs.Histories.{Made, madeTake, callOf, gave, Ensured, byTake, last, made}
+use Rattle.sequence.specs.Histories.{Ensured, Made, callOf, last, made}
 use Rattle.sequence.specs.HistoriesLaws as histories
 use Rattle.sequence.specs.ComparisonLaws.{comparison}
 use Rattle.reach.specs.Sound.{Reached}
@@ -41,41 +43,41 @@ without-station =
     }
 
 -- what a call gave is the rules' step, and so has what every step has
-module _ (P : Station → Made → Outcome → Type 0) where
-  by-step : (st : Station) (m : Made) → Ensured st m → P st m (step st (callOf m)) → P st m (gave st m)
-  by-step st m e h = subst (P st m) (sym (histories.met st m e)) h
+by-step : (P : Outcome → Type 0) {st : Station} {c : Call} {o : Outcome} → Ensured st c o → P (step st c) → P o
+by-step P e h = subst P (sym (histories.met e)) h
 
-refused-keeps : (st : Station) (m : Made) → Ensured st m → isRefusal (gave st m .answer) ≡ true → Unchanged st (callOf m) (gave st m)
-refused-keeps st m e =
-    by-step (λ st m o. isRefusal (o .answer) ≡ true → Unchanged st (callOf m) o) st m e (complete .refused st (callOf m))
+refused-keeps : (st : Station) (c : Call) (o : Outcome) → Ensured st c o → isRefusal (o .answer) ≡ true → Unchanged st c o
+refused-keeps st c o e = by-step (λ o. isRefusal (o .answer) ≡ true → Unchanged st c o) e (complete .refused st c)
+
+same-taken : {a b : Answer} → steps.taken a ≡ steps.taken b → a ≡ b
+same-taken e = cc
 
 -- a take by its contract
-took : (st : Station) (bytes : List ℕ) (r : TakeResult) → Ensured st (madeTake bytes r) → takeOutcome r ≡ takeRule st bytes
-took st bytes r (byTake κ lent x e) = e
-
-taken : (st : Station) → Reached st → (bytes : List ℕ) (r : TakeResult) → Ensured st (madeTake bytes r) → Completion st bytes (takenOf (r .answer)) (r .station)
+taken : (st : Station) → Reached st → (bytes : List ℕ) (r : TakeResult) → Ensured st (take bytes) (takeStep bytes (takeOutcome r)) → Completion st bytes (takenOf (r .answer)) (r .station)
+unfolding step
 taken st k bytes r e =
-    subst (λ (o : TakeOutcome). Completion st bytes (o .answer) (o .station)) (sym (took st bytes r e)) (complete .completes st k bytes)
+    let m = histories.met e in
+    subst (λ (a : Answer). Completion st bytes a (r .station)) (sym (same-taken (ap (λ (o : Outcome). o .answer) m))) (subst (Completion st bytes (takeRule st bytes .answer)) (sym (ap (λ (o : Outcome). o .station) m)) (complete .completes st k bytes))
 
 pub demands : Demands
 demands =
     record {
-      answers = histories.met;
-      refuses = λ st placed m e. by-step (λ st m o. ByTheTable st (callOf m) (o .answer)) st m e (complete .refusals st placed (callOf m));
-      station-kept = λ st m e r. refused-keeps st m e r .station;
-      bytes-kept = λ st m e r. let h = refused-keeps st m e r in (h .read, h .lent);
+      answers = λ st c o e. histories.met e;
+      refuses = λ st placed c o e. by-step (λ o. ByTheTable st c (o .answer)) e (complete .refusals st placed c);
+      station-kept = λ st c o e r. refused-keeps st c o e r .station;
+      bytes-kept = λ st c o e r. let h = refused-keeps st c o e r in (h .read, h .lent);
       alone-standing = without-station;
       replies = λ st k bytes r e. taken st k bytes r e .replies;
       errors = λ st k bytes r e. taken st k bytes r e .fails;
       ends = λ st k bytes r e. taken st k bytes r e .ends;
       at-most-one = λ st k bytes. complete .completes st k bytes .one;
-      changes = λ st k m e n h. by-step (λ st m o. ChangesListed n (callOf m) (o .answer) (view n st) (view n (o .station))) st m e (complete .changes st k (callOf m) n h);
-      counts = λ st k m e n h. by-step (λ st m o. EndsAt n (callOf m) (o .answer) (view n st) (view n (o .station))) st m e (complete .ends st k (callOf m) n h);
+      changes = λ st k c o e n h. by-step (λ o. ChangesListed n c (o .answer) (view n st) (view n (o .station))) e (complete .changes st k c n h);
+      counts = λ st k c o e n h. by-step (λ o. EndsAt n c (o .answer) (view n st) (view n (o .station))) e (complete .ends st k c n h);
       begins = λ r e. subst Start (sym e) fresh;
       reached = λ st begins ms k. subst Reached (sym (histories.history st ms k .station)) (complete .reached st begins (map callOf ms));
       every-answer = λ st begins ms k. histories.history st ms k .entries;
       final-station = λ st begins ms k. histories.history st ms k .station;
-      struck = λ st m e. by-answer st (callOf m) ∙ ap (λ (o : Outcome). sentence (callOf m) (o .answer)) (sym (histories.met st m e));
+      struck = λ st c o e. by-answer st c ∙ ap (λ (x : Outcome). sentence c (x .answer)) (sym (histories.met e));
       holds = λ n h st begins ms ns k l e. histories.alone n h st begins ms ns k l e .holds;
       returns = λ n h st begins ms ns k l e. histories.alone n h st begins ms ns k l e .returns;
       compares-all = comparison .whole;

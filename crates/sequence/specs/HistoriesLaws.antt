@@ -6,31 +6,31 @@ use mathlib.Core.List.{List, [], _∷_, _++_, map}
 use Rattle.report.specs.Ports.{isPort}
 use Rattle.station.specs.declared.Station.{Station}
 use Rattle.sequence.specs.Starts.{Start}
-use Rattle.sequence.specs.Steps.{Call, takeStep, requestStep, cancelStep, tickStep, writeStep, step, run}
+use Rattle.sequence.specs.Steps.{Call, Outcome, takeStep, requestStep, cancelStep, tickStep, writeStep, step, run}
 use Rattle.sequence.specs.Transcripts.{Entry, transcript, callsOf}
 use Rattle.sequence.specs.Remaining.{view, remaining, compared}
 use Rattle.sequence.specs.Independence.{SameOrders}
 use Rattle.sequence.specs.IndependenceLaws as rules
-use Rattle.sequence.specs.Histories.{Made, callOf, gave, Ensured, byTake, byRequest, byCancel, byTick, bySwitch, byGetPaired, byLed, byList, History, last, made, ByTheRules, AloneInProgram, SameOrdersInProgram}
+use Rattle.sequence.specs.Histories.{Made, callOf, Ensured, byTake, byRequest, byCancel, byTick, bySwitch, byGetPaired, byLed, byList, History, last, made, ByTheRules, AloneInProgram, SameOrdersInProgram}
 
 -- what the program's function ensures is the rules' step
-pub met : (st : Station) (m : Made) → Ensured st m → gave st m ≡ step st (callOf m)
+pub met : {st : Station} {c : Call} {o : Outcome} → Ensured st c o → o ≡ step st c
 unfolding step
-met st m (byTake κ bytes r e) = ap (takeStep _) e
-met st m (byRequest κ κ′ device byte2 byte3 ticks params buffer after offset r e) = ap (requestStep _) e
-met st m (byCancel device byte2 byte3 r e) = ap cancelStep e
-met st m (byTick r e) = ap tickStep e
-met st m (bySwitch κ bits timeout buffer after offset r e) = ap (writeStep st) e
-met st m (byGetPaired κ buffer after offset r e) = ap (writeStep st) e
-met st m (byLed κ device leds buffer after offset r e) = ap (writeStep st) e
-met st m (byList κ buffer after offset r e) = ap (writeStep st) e
+met (byTake κ bytes r e) = ap (takeStep _) e
+met (byRequest κ κ′ device byte2 byte3 ticks params buffer after offset r e) = ap (requestStep _) e
+met (byCancel device byte2 byte3 r e) = ap cancelStep e
+met (byTick r e) = ap tickStep e
+met {st} (bySwitch κ bits timeout buffer after offset r e) = ap (writeStep st) e
+met {st} (byGetPaired κ buffer after offset r e) = ap (writeStep st) e
+met {st} (byLed κ device leds buffer after offset r e) = ap (writeStep st) e
+met {st} (byList κ buffer after offset r e) = ap (writeStep st) e
 
 pub history : (st : Station) (ms : List Made) → History st ms → ByTheRules st ms
 unfolding History last made run transcript
 history st [] k = record { station = refl; entries = refl }
 history st (m ∷ ms) k =
-    let e = met st m (k .0) in
-    let rest = history (gave st m .station) ms (k .1) in
+    let e : m .outcome ≡ step st (m .call) = met (k .0) in
+    let rest = history (m .outcome .station) ms (k .1) in
     record { station = cc (e, rest .station); entries = cc (e, rest .entries) }
 
 pub alone : (n : ℕ) → isPort n ≡ true → (st : Station) → Start st → (ms ns : List Made) → History st ms → History st ns → map callOf ns ≡ callsOf (remaining n (made st ms)) → AloneInProgram n st ms ns
@@ -55,4 +55,4 @@ orders st begins ms ns k l h =
 pub cut : (st : Station) (ms ns : List Made) → History st (ms ++ ns) → History st ms × History (last st ms) ns
 unfolding History last
 cut st [] ns k = (tt, k)
-cut st (m ∷ ms) ns k = let rest = cut (gave st m .station) ms ns (k .1) in ((k .0, rest .0), rest .1)
+cut st (m ∷ ms) ns k = let rest = cut (m .outcome .station) ms ns (k .1) in ((k .0, rest .0), rest .1)

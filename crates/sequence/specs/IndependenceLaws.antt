@@ -17,8 +17,8 @@ use Rattle.station.specs.Stations.{portCount, positionOf, numberAt, freshStatio
 use Rattle.station.specs.StationsLaws.{position-within}
 use Rattle.station.specs.StationCalls.{tickedPort, endedOn, tickAll}
 use Rattle.sequence.specs.Starts.{Start, fresh}
-use Rattle.sequence.specs.Steps.{Call, Outcome, step, run, returned}
-use Rattle.sequence.specs.Targets.{Target, none, one, all, labelOf, isFor, target}
+use Rattle.sequence.specs.Steps.{Call, Outcome, step, run, returned, labelOf, target}
+use Rattle.sequence.specs.Targets.{Target, none, one, all, isFor}
 use Rattle.sequence.specs.Transcripts.{transcript}
 use Rattle.sequence.specs.Remaining.{view, remaining, Compared, whole, count, comparedOf, compared}
 use Rattle.sequence.specs.Independence.{remains, Alone, SameOrders}

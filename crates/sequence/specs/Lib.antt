@@ -1,5 +1,5 @@
-pub mod Steps
 pub mod Targets
+pub mod Steps
 pub mod Refused
 pub mod Sentence
 pub mod Readings

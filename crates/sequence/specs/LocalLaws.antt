@@ -17,8 +17,8 @@ use Rattle.station.specs.Stations.{positionOf, portAt, withPort}
 use Rattle.station.specs.StationsLaws.{same-port}
 use Rattle.station.specs.StationTaking.{TakeOutcome, storedAt, takeBy, takeRule}
 use Rattle.station.specs.StationCalls.{requestRule, cancelRule, tickAll}
-use Rattle.sequence.specs.Steps.{Writer, switch, getPaired, led, list, Call, take, request, cancel, tick, write, taken, written, cancelled, takeStep, tickStep, writeStep, writerRule, step, Returned, returned}
-use Rattle.sequence.specs.Targets.{Target, none, one, all, readTarget, writerTarget, target}
+use Rattle.sequence.specs.Steps.{Writer, switch, getPaired, led, list, Call, take, request, cancel, tick, write, taken, written, cancelled, takeStep, tickStep, writeStep, writerRule, step, Returned, returned, writerRow, target}
+use Rattle.sequence.specs.Targets.{Target, none, one, all, readTarget}
 use Rattle.sequence.specs.Readings.{ReadFits}
 use Rattle.sequence.specs.ReadingsLaws.{dj-port, read-fits}
 
@@ -92,7 +92,7 @@ written-at writer offset lent number o h e =
       gives = λ st. ap (λ (x : writing.WriteOutcome). returned (writeStep st x)) (e st);
     }
 
-write-shape : (writer : Writer) (offset : ℕ) (lent : List ℕ) → Shape (write writer offset lent) (writerTarget writer)
+write-shape : (writer : Writer) (offset : ℕ) (lent : List ℕ) → Shape (write writer offset lent) (writerRow writer .target)
 unfolding step
 write-shape (switch bits timeout) offset lent = written-at (switch bits timeout) offset lent receiver _ refl (λ st. refl)
 write-shape getPaired offset lent = written-at getPaired offset lent receiver _ refl (λ st. refl)

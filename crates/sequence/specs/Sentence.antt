@@ -9,8 +9,8 @@ use Rattle.frame.specs.Writing as writing
 use Rattle.port.specs.Answers as answers
 use Rattle.port.specs.Waiting as waiting
 use Rattle.station.specs.declared.Station.{Station}
-use Rattle.sequence.specs.Steps.{Writer, switch, getPaired, led, list, Call, take, request, cancel, tick, write, CallAnswer, taken, written, cancelled, ticked, step}
-use Rattle.sequence.specs.Targets.{Target, none, one, all, target}
+use Rattle.sequence.specs.Steps.{Writer, switch, getPaired, led, list, Call, take, request, cancel, tick, write, CallAnswer, taken, written, cancelled, ticked, step, target}
+use Rattle.sequence.specs.Targets.{Target, none, one, all}
 
 -- an empty-list notice
 abbrev pub isEmptyNotice : answers.Notice → Bool

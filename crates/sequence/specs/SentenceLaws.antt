@@ -25,8 +25,8 @@ use Rattle.station.specs.StationsLaws.{same-port}
 use Rattle.station.specs.StationTaking.{takeBy, takeRule}
 use Rattle.station.specs.StationCalls.{requestRule, cancelRule}
 use Rattle.sequence.specs.Steps as steps
-use Rattle.sequence.specs.Steps.{Writer, switch, getPaired, led, list, Call, take, request, cancel, tick, write, Outcome, takeStep, requestStep, cancelStep, writeStep, writerRule, step}
-use Rattle.sequence.specs.Targets.{Target, none, one, readTarget, writerTarget, target}
+use Rattle.sequence.specs.Steps.{Writer, switch, getPaired, led, list, Call, take, request, cancel, tick, write, Outcome, takeStep, requestStep, cancelStep, writeStep, writerRule, step, writerRow, target}
+use Rattle.sequence.specs.Targets.{Target, none, one, readTarget}
 use Rattle.sequence.specs.Sentence.{takeForNone, writeForNone, cancelForNone, forNamed, writerSentence, sentence, ByAnswer}
 use Rattle.sequence.specs.Refused.{takeRefused, writeRefused, cancelRefused, isRefusal, Unchanged}
 use Rattle.sequence.specs.Readings.{ReadFits}
@@ -213,7 +213,7 @@ module _ (st : Station) where
     led-kind device leds false e =
         simp e (record { says = refl; kept = λ r. record { station = refl; read = refl; lent = refl } })
 
-    write-kind : (writer : Writer) → Kind st (write writer offset lent) (writerTarget writer) (writeStep st (writerRule st writer offset lent))
+    write-kind : (writer : Writer) → Kind st (write writer offset lent) (writerRow writer .target) (writeStep st (writerRule st writer offset lent))
     unfolding writing.getPairedRule listingRule
     write-kind (switch bits timeout) =
         written (switch bits timeout) receiver (switch-kind lent bits timeout offset) refl

@@ -1,8 +1,8 @@
 -- Document 01, "Sequences of calls": the calls of a run, each with the port that it is for and with what it returned.
 use mathlib.Core.List.{List, [], _∷_, map}
 use Rattle.station.specs.declared.Station.{Station}
-use Rattle.sequence.specs.Steps.{Call, Outcome, step, Returned, returned}
-use Rattle.sequence.specs.Targets.{Target, labelOf}
+use Rattle.sequence.specs.Steps.{Call, Outcome, step, Returned, returned, labelOf}
+use Rattle.sequence.specs.Targets.{Target}
 
 -- one call of a run: the call, its label, which says the port that it is for, and what it returned
 pub record Entry : Type 0 where
