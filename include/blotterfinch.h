@@ -1,6 +1,9 @@
 /* Unifying receiver reports without a station: reading one report, writing frames, mouse movement.
  *
- * Link with libblotterfinch.a (x86-64). No call keeps a pointer, allocates, or has state of its own.
+ * For C99 and C++11. Link with libblotterfinch.a (x86-64). No call keeps a pointer, allocates, or has state
+ * of its own. The archive has the six functions that are declared at the end; the two that are `static
+ * inline` are compiled with the caller. The station, which pairs devices and matches replies to requests,
+ * is not in it.
  *
  * What the caller owes, for every buffer of every call:
  * - the pointer covers as many bytes as the length beside it says;
@@ -14,9 +17,59 @@
 #include <stddef.h>
 #include <stdint.h>
 
+/* The version of this header and of the archive beside it. */
+#define BLOTTERFINCH_VERSION_MAJOR 0
+#define BLOTTERFINCH_VERSION_MINOR 1
+#define BLOTTERFINCH_VERSION_PATCH 0
+#define BLOTTERFINCH_VERSION "0.1.0"
+
 #ifdef __cplusplus
 extern "C" {
 #endif
+
+/* Byte 0 of a report or frame. */
+enum blotterfinch_id {
+    BLOTTERFINCH_HIDPP_SHORT = 0x10,
+    BLOTTERFINCH_HIDPP_LONG = 0x11,
+    BLOTTERFINCH_DJ_SHORT = 0x20,
+    BLOTTERFINCH_DJ_LONG = 0x21
+};
+
+/* The longest report or frame, in bytes. */
+enum { BLOTTERFINCH_LONGEST = 32 };
+
+/* Byte 1: devices are 1 to BLOTTERFINCH_DEVICES. */
+enum { BLOTTERFINCH_DEVICES = 6, BLOTTERFINCH_RECEIVER = 255 };
+
+/* Byte 2 of a DJ report: below 0x40 what a device sent by radio, below 0x80 a notification of the receiver,
+ * from 0x80 on a command to it. Other types exist. */
+enum blotterfinch_dj_type {
+    BLOTTERFINCH_KEYBOARD = 0x01,
+    BLOTTERFINCH_MOUSE = 0x02,
+    BLOTTERFINCH_CONSUMER_CONTROL = 0x03,
+    BLOTTERFINCH_SYSTEM_CONTROL = 0x04,
+    BLOTTERFINCH_MEDIA_CENTER = 0x08,
+    BLOTTERFINCH_KEYBOARD_LEDS = 0x0E, /* goes to the device only */
+    BLOTTERFINCH_DEVICE_UNPAIRED = 0x40,
+    BLOTTERFINCH_DEVICE_PAIRED = 0x41,
+    BLOTTERFINCH_CONNECTION_STATUS = 0x42,
+    BLOTTERFINCH_DJ_ERROR = 0x7F,
+    BLOTTERFINCH_SWITCH = 0x80,
+    BLOTTERFINCH_GET_PAIRED = 0x81
+};
+
+/* Byte 2 of a HID++ report or request, where it is no feature index (0x00 to 0x3F). */
+enum blotterfinch_sub_id {
+    BLOTTERFINCH_SET_REGISTER = 0x80,
+    BLOTTERFINCH_GET_REGISTER = 0x81,
+    BLOTTERFINCH_SET_LONG_REGISTER = 0x82,
+    BLOTTERFINCH_GET_LONG_REGISTER = 0x83,
+    BLOTTERFINCH_HIDPP1_ERROR = 0x8F,
+    BLOTTERFINCH_HIDPP2_ERROR = 0xFF
+};
+
+/* The bytes that blotterfinch_mouse takes. */
+enum { BLOTTERFINCH_MOUSE_PAYLOAD = 7 };
 
 /* Why a call was refused: the numbers of document 01, "Refusal numbers", without those that need a
  * station. Where several apply, the one that comes first in the function's comment is given. */
@@ -52,8 +105,8 @@ typedef struct blotterfinch_report {
     uint8_t device;
     uint8_t byte2;  /* HID++: feature index or sub id. DJ: type */
     uint8_t byte3;  /* HID++: function * 16 + software id, or a register. DJ: first parameter */
-    uint8_t start;  /* offset of the first parameter in the report */
-    uint8_t length; /* number of parameters, in bytes */
+    uint8_t start;  /* offset of the first parameter in the report: HID++ 4, DJ 3 */
+    uint8_t length; /* all bytes from start to the report's end: HID++ 3 or 16; DJ 12 or 29, padding included */
 } blotterfinch_report;
 
 /* One frame. Refused: length is 0. */
@@ -71,6 +124,38 @@ typedef struct blotterfinch_movement {
     int8_t pan;
     uint8_t refusal;
 } blotterfinch_movement;
+
+/* The length of a report or frame by its byte 0, the id: 7, 20, 15 or 32; 0 where there is no such id. A
+ * stream of whole reports is cut by it: look at the first byte, take so many bytes, go on behind them. */
+static inline size_t blotterfinch_report_length(uint8_t id)
+{
+    switch (id) {
+    case BLOTTERFINCH_HIDPP_SHORT: return 7;
+    case BLOTTERFINCH_HIDPP_LONG: return 20;
+    case BLOTTERFINCH_DJ_SHORT: return 15;
+    case BLOTTERFINCH_DJ_LONG: return 32;
+    default: return 0;
+    }
+}
+
+/* A refusal in words, in English and in lower case; for any other number, that there is no such refusal.
+ * The text is a constant: it is not to be freed. */
+static inline const char *blotterfinch_refusal_text(uint8_t refusal)
+{
+    switch (refusal) {
+    case BLOTTERFINCH_ACCEPTED: return "accepted";
+    case BLOTTERFINCH_EMPTY_REPORT: return "the report has no byte";
+    case BLOTTERFINCH_UNKNOWN_ID: return "no such report id";
+    case BLOTTERFINCH_WRONG_LENGTH: return "the length is not that of the id, or of a mouse payload";
+    case BLOTTERFINCH_DOWN_ONLY: return "a DJ type that only goes to the receiver";
+    case BLOTTERFINCH_NO_SUCH_PORT: return "no such port";
+    case BLOTTERFINCH_RESERVED_SUB_ID: return "a reserved byte 2";
+    case BLOTTERFINCH_FORBIDDEN: return "a request that is not allowed";
+    case BLOTTERFINCH_NO_ROOM: return "what is to be written does not fit";
+    case BLOTTERFINCH_RESERVED_BITS: return "a reserved device bit";
+    default: return "no such refusal";
+    }
+}
 
 /* Reads one report. Refusals: 1, 2, 3, 4, 5, 6.
  * bytes has bytes_length bytes; the call writes none; a refusal changes nothing. */
@@ -97,7 +182,10 @@ blotterfinch_written blotterfinch_get_paired_frame(uint8_t *buffer, size_t buffe
 blotterfinch_written blotterfinch_led_frame(uint8_t device, uint8_t leds,
                                             uint8_t *buffer, size_t buffer_length, size_t offset);
 
-/* Reads the payload of a DJ mouse report (type 0x02), 7 bytes. Refusals: 3.
+/* Reads the payload of a DJ mouse report (type 0x02): the first 7 bytes at its start, whatever follows them.
+ * So for a report r of that type in bytes, BLOTTERFINCH_MOUSE_PAYLOAD and not r.length:
+ *     blotterfinch_mouse(bytes + r.start, BLOTTERFINCH_MOUSE_PAYLOAD)
+ * Any other length is refused, and a refused movement is all zeros, so look at its refusal. Refusals: 3.
  * payload has payload_length bytes; the call writes none; a refusal changes nothing. */
 blotterfinch_movement blotterfinch_mouse(const uint8_t *payload, size_t payload_length);
 
