@@ -46,7 +46,7 @@ pub record Demands : Type 0 where
   pub station-kept : (st : Station) (c : Call) (o : Outcome) → Ensured st c o → isRefusal (o .answer) ≡ true → o .station ≡ st
   pub bytes-kept : (st : Station) (c : Call) (o : Outcome) → Ensured st c o → isRefusal (o .answer) ≡ true → (o .read ≡ readOf c) × (o .lent ≡ lentOf c)
   -- Demand 2. Without a station, reports are read and frames are written as the rules say
-  pub alone-standing : WithoutStation
+  pub without-station : WithoutStation
   -- A reply completes a request exactly when one waits on the device that byte 1 names with the same bytes 2 and 3
   pub replies : (st : Station) → Reached st → (bytes : List ℕ) (r : TakeResult) → Ensured st (take bytes) (takeStep bytes (takeOutcome r)) → (isReply (takenOf (r .answer)) ≡ true) ↔ Replies st bytes
   -- An error, exactly when one waits there with the two bytes that the error names, and its kind fits that request

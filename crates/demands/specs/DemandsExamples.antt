@@ -84,7 +84,7 @@ module _ (d : Demands) where
 
   -- C reads a report of any length
   c-reads : (κ : List ℕ) (bytes : RefT (List ℕ)) (r : Report) → read-reads.Learnt (κ, tt) (bytes, tt) r (bytes, tt) → r ≡ cReport (readRule (now bytes))
-  c-reads = d .alone-standing .read
+  c-reads = d .without-station .read
 
   module _ (st : Station) (k : Reached st) (bytes : List ℕ) (r : TakeResult) (e : Ensured st (take bytes) (takeStep bytes (takeOutcome r))) where
     -- where one waits its reply completes it, and only there

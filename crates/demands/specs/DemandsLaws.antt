@@ -31,8 +31,8 @@ use Rattle.encoded.specs.Demand3Laws.{demand3}
 use Rattle.demands.specs.WithoutStation.{WithoutStation}
 use Rattle.demands.specs.Demands.{Demands}
 
-without-station : WithoutStation
-without-station =
+stateless : WithoutStation
+stateless =
     record {
       read = λ κ bytes r e. e;
       request = λ κ κ′ device byte2 byte3 params buffer after offset r e. e;
@@ -66,7 +66,7 @@ demands =
       refuses = λ st placed c o e. by-step (λ o. ByTheTable st c (o .answer)) e (complete .refusals st placed c);
       station-kept = λ st c o e r. refused-keeps st c o e r .station;
       bytes-kept = λ st c o e r. let h = refused-keeps st c o e r in (h .read, h .lent);
-      alone-standing = without-station;
+      without-station = stateless;
       replies = λ st k bytes r e. taken st k bytes r e .replies;
       errors = λ st k bytes r e. taken st k bytes r e .fails;
       ends = λ st k bytes r e. taken st k bytes r e .ends;
