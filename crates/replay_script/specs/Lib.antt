@@ -1,0 +1,5 @@
+pub mod ReplayRuns
+pub mod Shares
+pub mod ScriptContracts
+pub mod ShareLaws
+pub mod ReplayRunLaws
