@@ -43,10 +43,10 @@ fn turn(state: State, fd: i32, name: &[u8], buffer: &mut [u8], output: &mut [u8]
     ensures { λ r. ⌜ Turned state (now (buffer .entry)) r (now (buffer .exit)) (now (output .exit)) ⌝ }
 {
     if !state.reading {
-        let next = feed::feed(state, buffer, 0, output);
-        let going = write(next.filled, output);
+        let resumed = feed::feed(state, buffer, 0, output);
+        let going = write(resumed.filled, output);
         return Outcome {
-            state: next,
+            state: resumed,
             going,
             whole: false,
         };
