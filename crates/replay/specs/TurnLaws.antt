@@ -52,14 +52,14 @@ module _ (s : State) (b b₁ : List ℕ) (same : length b ≡ length b₁) (fron
   pub still-large : {output : List ℕ} → Large b output → Large b₁ output
   still-large large = record { line = omega (arith, large .line, same); answer = large .answer }
 
-  pub read-turn : (r : State) (going : Bool) (count : ℕ) {b₂ output₂ : List ℕ} → s .size + count ≤ length b₁ → Continues (pendingOf s b₁) (take count (drop (s .size) b₁)) (take (r .filled) output₂) (pendingOf r b₂) → Uses r b₂ (length (heldOf s b₁) + count) → Standing r b₂ output₂ → Turned s b (record { state = r; going = going; whole = false }) b₂ output₂
-  read-turn r going count {b₂} {output₂} room k u stands =
+  pub read-turn : {r : Outcome} {b₂ output₂ : List ℕ} → Turned s b₁ r b₂ output₂ → Turned s b r b₂ output₂
+  read-turn {r} {b₂} {output₂} t =
       record {
-        input = take count (drop (s .size) b₁);
-        continues = λ e. subst (λ (p : Pending). Continues p (take count (drop (s .size) b₁)) (take (r .filled) output₂) (pendingOf r b₂)) still-pending k;
-        uses = λ e. record { less = λ t. omega (arith, u .less t, ap (λ (p : Pending). length (p .held)) still-pending, length-take-le count (drop (s .size) b₁) (omega (arith, length-drop (s .size) b₁, room))) };
-        standing = λ e. stands;
-        ends = no;
+        input = t .input;
+        continues = λ e. subst (λ (p : Pending). Continues p (t .input) (take (r .state .filled) output₂) (pendingOf (r .state) b₂)) still-pending (t .continues e);
+        uses = λ e. record { less = λ f. omega (arith, t .uses e .less f, ap (λ (p : Pending). length (p .held)) still-pending) };
+        standing = t .standing;
+        ends = λ e. subst (λ (p : Pending). Ends p (endedBy (r .state) output₂)) still-pending (t .ends e);
       }
 
   pub last-turn : (r : State) (whole : Bool) (b₂ : List ℕ) {output₂ : List ℕ} → Ends (pendingOf s b₁) (endedBy r output₂) → Turned s b (record { state = r; going = false; whole = whole }) b₂ output₂
@@ -72,9 +72,15 @@ module _ (s : State) (b b₁ : List ℕ) (same : length b ≡ length b₁) (fron
         ends = λ t. subst (λ (p : Pending). Ends p (endedBy r output₂)) still-pending e;
       }
 
-pub resumed-turn : {s : State} {b : List ℕ} (r : State) (going : Bool) {b₁ output₁ : List ℕ} → Continues (pendingOf s b) [] (take (r .filled) output₁) (pendingOf r b₁) → Uses r b₁ (length (heldOf s b) + 0) → Standing r b₁ output₁ → Turned s b (record { state = r; going = going; whole = false }) b₁ output₁
-resumed-turn r going k u stands =
-    record { input = []; continues = λ e. k; uses = λ e. u; standing = λ e. stands; ends = no }
+pub fed-turn : (s : State) (b : List ℕ) (count : ℕ) (r : State) (going : Bool) {b₁ output₁ : List ℕ} → s .size + count ≤ length b → Continues (pendingOf s b) (take count (drop (s .size) b)) (take (r .filled) output₁) (pendingOf r b₁) → Uses r b₁ (length (heldOf s b) + count) → Standing r b₁ output₁ → Turned s b (record { state = r; going = going; whole = false }) b₁ output₁
+fed-turn s b count r going room k u stands =
+    record {
+      input = take count (drop (s .size) b);
+      continues = λ e. k;
+      uses = λ e. record { less = λ f. omega (arith, u .less f, length-take-le count (drop (s .size) b) (omega (arith, length-drop (s .size) b, room))) };
+      standing = λ e. stands;
+      ends = no;
+    }
 
 pub failed-turn : {s : State} {b : List ℕ} (r : State) {b₁ output₁ : List ℕ} → Turned s b (record { state = r; going = false; whole = false }) b₁ output₁
 failed-turn r = record { input = []; continues = no; uses = no; standing = no; ends = no }

@@ -31,8 +31,7 @@ fn proceed(
     size: usize,
     output: &mut [u8],
 ) -> State
-    requires ordered { ⌜ start ≤ size ⌝ }
-    requires within { ⌜ size ≤ length (now buffer) ⌝ }
+    requires part { ⌜ (start ≤ size) × (size ≤ length (now buffer)) ⌝ }
     requires large { ⌜ Large (now buffer) (now output) ⌝ }
     ensures text { λ r. ⌜ Continues (pending station number (drop start (take size (now (buffer .entry))))) [] (take (r .filled) (now (output .exit))) (pendingOf r (now (buffer .exit))) ⌝ }
     ensures uses { λ r. ⌜ Uses r (now (buffer .exit)) (size - start) ⌝ }

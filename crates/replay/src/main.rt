@@ -1,5 +1,5 @@
 // replay [FILE [MARK]]: makes each call of a script on one station that starts fresh, and writes the answers. FILE is the script; it is on standard input where FILE is `-` or left out. A program cannot end with a status: where there is a second argument, a line on descriptor 3 says that the whole script was read, answered and written, and every failure leaves that line out.
-ghost use Prim.Native.Nat.{_≤_};
+ghost use Prim.Native.Nat.{_+_, _≤_};
 ghost use mathlib.Core.Path.{_≡_};
 ghost use mathlib.Core.Bool.{true};
 ghost use lib.ListN.{length};
@@ -36,6 +36,22 @@ fn write(filled: usize, output: &[u8]) -> bool
     false
 }
 
+// Takes in `count` bytes that lie behind those that are held, and writes the answers.
+fn advance(state: State, buffer: &mut [u8], count: usize, output: &mut [u8]) -> Outcome
+    requires standing { ⌜ Standing state (now buffer) (now output) ⌝ }
+    requires count { ⌜ state .size + count ≤ length (now buffer) ⌝ }
+    requires large { ⌜ Large (now buffer) (now output) ⌝ }
+    ensures { λ r. ⌜ Turned state (now (buffer .entry)) r (now (buffer .exit)) (now (output .exit)) ⌝ }
+{
+    let next = feed::feed(state, buffer, count, output);
+    let going = write(next.filled, output);
+    Outcome {
+        state: next,
+        going,
+        whole: false,
+    }
+}
+
 // Reads once unless whole lines wait, answers what is there, and writes the answers. A read or a write that fails ends the run.
 fn turn(state: State, fd: i32, name: &[u8], buffer: &mut [u8], output: &mut [u8]) -> Outcome
     requires standing { ⌜ Standing state (now buffer) (now output) ⌝ }
@@ -43,13 +59,7 @@ fn turn(state: State, fd: i32, name: &[u8], buffer: &mut [u8], output: &mut [u8]
     ensures { λ r. ⌜ Turned state (now (buffer .entry)) r (now (buffer .exit)) (now (output .exit)) ⌝ }
 {
     if !state.reading {
-        let resumed = feed::feed(state, buffer, 0, output);
-        let going = write(resumed.filled, output);
-        return Outcome {
-            state: resumed,
-            going,
-            whole: false,
-        };
+        return advance(state, buffer, 0, output);
     }
     let size = state.size;
     let got = libc::read(fd, &mut buffer[size..]);
@@ -71,13 +81,7 @@ fn turn(state: State, fd: i32, name: &[u8], buffer: &mut [u8], output: &mut [u8]
             whole,
         };
     }
-    let next = feed::feed(state, buffer, count, output);
-    let going = write(next.filled, output);
-    Outcome {
-        state: next,
-        going,
-        whole: false,
-    }
+    advance(state, buffer, count, output)
 }
 
 // Answers whether the whole script was answered. A proved loop has to end, and nothing says that a script does: the turns are counted down from a number that no run uses up.
@@ -107,15 +111,23 @@ fn replay(fd: i32, name: &[u8]) -> bool {
     next.whole
 }
 
-fn mark(whole: bool) {
-    if whole && os::arg_count() > 2 {
+// Closes standard output, where a write may still fail, and then sets the mark.
+fn finish(whole: bool) {
+    if !whole {
+        return;
+    }
+    if libc::close(STDOUT_FILENO) < 0 {
+        os::fail(b"standard output");
+        return;
+    }
+    if os::arg_count() > 2 {
         io::write_all(MARK, b"answered\n");
     }
 }
 
 fn main() {
     if os::arg_count() < 2 {
-        replay(STDIN_FILENO, b"standard input");
+        finish(replay(STDIN_FILENO, b"standard input"));
         return;
     }
     let mut path = io::buffer();
@@ -125,7 +137,7 @@ fn main() {
         return;
     }
     if length == 1 && path[0] == b'-' {
-        mark(replay(STDIN_FILENO, b"standard input"));
+        finish(replay(STDIN_FILENO, b"standard input"));
         return;
     }
     let fd = os::open_read(&path[..length]);
@@ -133,6 +145,6 @@ fn main() {
         os::fail(&path[..length]);
         return;
     }
-    mark(replay(fd, &path[..length]));
+    finish(replay(fd, &path[..length]));
     libc::close(fd);
 }

@@ -1,12 +1,9 @@
 -- `replay::turn` meets its contract.
 use borrow.Author.Tests.{not-false}
-use Rattle.replay.specs.TurnLaws.{kept-front, still-standing, still-large, read-turn, last-turn, resumed-turn, failed-turn}
+use Rattle.replay.specs.TurnLaws.{kept-front, still-standing, still-large, read-turn, last-turn, failed-turn}
 use borrow.Author.Needs.{needs}
 use Rattle.replay.proofs.turn.Statement.{statement}
 use Rattle.replay.proofs.turn.Tie as tie
-
-returns : tie.Need-returns
-returns c = resumed-turn (c .before .before .before .before .before .before .feed .result) _ (c .before .before .before .before .before .before .feed .ensures .0) (c .before .before .before .before .before .before .feed .ensures .1 .0) (c .before .before .before .before .before .before .feed .ensures .1 .1)
 
 returns-2 : tie.Need-returns-2
 returns-2 c = failed-turn (c .before .before .before .before .before .before .before .before .before .before .before .args .state)
@@ -17,21 +14,20 @@ finish-requires c κs = (still-standing _ _ _ (search needs) (kept-front _ _ _ (
 returns-3 : tie.Need-returns-3
 returns-3 c = last-turn _ _ _ (search needs) (kept-front _ _ _ (c .before .before .before .before .before .before .before .before .before .before .before .before .before .before .before .before .before .before .before .before .before .before .before .pre .0 .within)) (c .before .before .before .before .before .before .finish .result) _ _ (c .before .before .before .before .before .before .finish .ensures .0)
 
-feed-requires-2 : tie.Need-feed-requires-2
-feed-requires-2 c κs = (still-standing _ _ _ (search needs) (kept-front _ _ _ (c .before .before .before .before .before .before .before .before .before .before .before .before .before .before .before .before .pre .0 .within)) (c .before .before .before .before .before .before .before .before .before .before .before .before .before .before .before .before .pre .0), (search needs, still-large (c .before .before .before .before .before .before .before .before .before .before .before .before .before .before .before .before .args .state) _ _ (search needs) (kept-front _ _ _ (c .before .before .before .before .before .before .before .before .before .before .before .before .before .before .before .before .pre .0 .within)) (c .before .before .before .before .before .before .before .before .before .before .before .before .before .before .before .before .pre .1)))
+advance-requires-2 : tie.Need-advance-requires-2
+advance-requires-2 c κs = (still-standing _ _ _ (search needs) (kept-front _ _ _ (c .before .before .before .before .before .before .before .before .before .before .before .before .before .before .before .before .pre .0 .within)) (c .before .before .before .before .before .before .before .before .before .before .before .before .before .before .before .before .pre .0), (search needs, still-large (c .before .before .before .before .before .before .before .before .before .before .before .before .before .before .before .before .args .state) _ _ (search needs) (kept-front _ _ _ (c .before .before .before .before .before .before .before .before .before .before .before .before .before .before .before .before .pre .0 .within)) (c .before .before .before .before .before .before .before .before .before .before .before .before .before .before .before .before .pre .1)))
 
 returns-4 : tie.Need-returns-4
-returns-4 c = read-turn _ _ _ (search needs) (kept-front _ _ _ (c .before .before .before .before .before .before .before .before .before .before .before .before .before .before .before .before .before .before .before .before .before .before .before .pre .0 .within)) (c .before .before .before .before .before .before .feed2 .result) _ _ (search needs) (c .before .before .before .before .before .before .feed2 .ensures .0) (c .before .before .before .before .before .before .feed2 .ensures .1 .0) (c .before .before .before .before .before .before .feed2 .ensures .1 .1)
+returns-4 c = read-turn _ _ _ (search needs) (kept-front _ _ _ (c .before .before .before .before .before .before .before .before .before .before .before .before .before .before .before .before .before .before .before .before .before .pre .0 .within)) (c .before .before .before .before .advance2 .ensures)
 
 pub turn-spec : {M : Type 1} → statement M
 turn-spec =
     tie.close
     (tie.spec
     (λ c κs. search needs)
-    (λ c κs. search needs)
     (λ c. search needs)
     (λ c. search needs)
-    returns
+    (λ c. search needs)
     (λ c. search needs)
     (λ c. search needs)
     (λ c. search needs)
@@ -48,8 +44,7 @@ turn-spec =
     (λ c. search needs)
     (λ c. search needs)
     returns-3
-    feed-requires-2
-    (λ c κs. search needs)
+    advance-requires-2
     (λ c. search needs)
     (λ c. search needs)
     returns-4)
