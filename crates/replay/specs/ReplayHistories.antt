@@ -1,4 +1,4 @@
--- docs/SCRIPTS.md: a script that is read bit by bit, and answered as it is read.
+-- docs/SCRIPTS.md: a script that is read in parts, and answered as it is read.
 use Prim.Native.Nat.{ℕ}
 use mathlib.Core.Path.{_≡_}
 use mathlib.Core.Bool.{Bool, false, cond}

@@ -1,4 +1,4 @@
--- Laws of a script that is read bit by bit: however it is cut into reads, all that is written is the text of the rules' run over all that is read, and the station is the run's.
+-- Laws of a script that is read in parts: however it is cut into reads, all that is written is the text of the rules' run over all that is read, and the station is the run's.
 use Prim.Native.Nat.{ℕ}
 use mathlib.Core.Path.{_≡_, refl, sym, _∙_, ap}
 use mathlib.Core.List.{List, [], _∷_, _++_, append-assoc, append-nil}

@@ -10,7 +10,7 @@ use Rattle.replay_script.specs.ReplayRuns.{Unbroken, Ran}
 use Rattle.replay.specs.declared.feed.State.{State}
 use Rattle.replay.specs.declared.Outcome.{Outcome}
 use Rattle.replay.specs.InputContracts.{longest}
-use Rattle.replay.specs.ReplayHistories.{Pending, Continues, Ends}
+use Rattle.replay.specs.ReplayHistories.{Pending, atStart, Continues, Ends}
 
 -- the bytes of the buffer that are not yet answered
 abbrev pub heldOf : State → List ℕ → List ℕ
@@ -49,6 +49,11 @@ pub record Uses (s : State) (buffer : List ℕ) (size : ℕ) : Type 0 where
 pub record Large (buffer output : List ℕ) : Type 0 where
   pub line : longest < length buffer
   pub answer : answerRoom ≤ length output
+
+-- before the first turn, whatever is in the buffers
+pub record Starts (s : State) : Type 0 where
+  pub pending-is : (buffer : List ℕ) → pendingOf s buffer ≡ atStart
+  pub standing : (buffer output : List ℕ) → 0 < length buffer → Standing s buffer output
 
 -- a turn: where another is to follow, it took in some input, and its answers fill the front of the output buffer; where it was the last, they are all that was to come
 pub record Turned (s : State) (buffer : List ℕ) (r : Outcome) (buffer₁ output₁ : List ℕ) : Type 0 where

@@ -8,11 +8,12 @@ use lib.Dec.{T}
 use lib.ListN.{length, take, drop, length-drop}
 use lib.Seq.{length-take-le, take-at}
 use Rattle.station.specs.declared.Station.{Station}
+use Rattle.station.specs.Stations.{freshStation}
 use Rattle.replay_script.specs.ReplayRuns.{Unbroken, none}
 use Rattle.replay.specs.declared.feed.State.{State}
 use Rattle.replay.specs.declared.Outcome.{Outcome}
 use Rattle.replay.specs.ReplayHistories.{Pending, Continues, Ends}
-use Rattle.replay.specs.TurnContracts.{heldOf, pendingOf, endedBy, Uses, Standing, Large, Turned}
+use Rattle.replay.specs.TurnContracts.{heldOf, pendingOf, endedBy, Uses, Standing, Large, Starts, Turned}
 
 -- the size of either buffer
 abbrev pub bufferSize : ℕ
@@ -85,17 +86,24 @@ fed-turn s b count r going room k u stands =
 pub failed-turn : {s : State} {b : List ℕ} (r : State) {b₁ output₁ : List ℕ} → Turned s b (record { state = r; going = false; whole = false }) b₁ output₁
 failed-turn r = record { input = []; continues = no; uses = no; standing = no; ends = no }
 
--- the loop
-pub starts : (st : Station) {buffer output : List ℕ} → length buffer ≡ bufferSize → length output ≡ bufferSize → Looping (record { state = record { station = st; number = 0; start = 0; size = 0; cut = false; reading = true; filled = 0 }; going = true; whole = false }) buffer output
-starts st readable writable =
+pub starts : {st : Station} → st ≡ freshStation → Starts (record { station = st; number = 0; start = 0; size = 0; cut = false; reading = true; filled = 0 })
+starts e =
     record {
-      standing = λ e. record {
+      pending-is = λ buffer. ap (λ (x : Station). record { station = x; number = 0; held = []; cut = false }) e;
+      standing = λ buffer output some. record {
         ordered = omega arith;
         within = omega arith;
         filled = omega arith;
-        reading = λ t. record { room = omega (arith, readable); part = none };
+        reading = λ t. record { room = some; part = none };
         cut = no;
       };
+    }
+
+-- the loop
+pub looping : (s : State) (buffer output : List ℕ) → Starts s → length buffer ≡ bufferSize → length output ≡ bufferSize → Looping (record { state = s; going = true; whole = false }) buffer output
+looping s buffer output begins readable writable =
+    record {
+      standing = λ e. begins .standing buffer output (omega (arith, readable));
       readable = readable;
       writable = writable;
     }

@@ -5,7 +5,7 @@ ghost use mathlib.Core.Bool.{true};
 ghost use mathlib.Core.List.{[]};
 ghost use lib.ListN.{length, take, drop};
 ghost use Rattle.replay.specs.ReplayHistories.{Continues, Ends};
-ghost use Rattle.replay.specs.TurnContracts.{pending, heldOf, pendingOf, endedBy, Uses, Standing, Large};
+ghost use Rattle.replay.specs.TurnContracts.{pending, heldOf, pendingOf, endedBy, Uses, Standing, Large, Starts};
 use crate::input;
 use bytes::scan;
 use replay_script::NEWLINE;
@@ -20,6 +20,21 @@ pub struct State {
     pub cut: bool,
     pub reading: bool,
     pub filled: usize,
+}
+
+// Before anything is read.
+pub(crate) fn start() -> State
+    ensures starts { λ r. ⌜ Starts r ⌝ }
+{
+    State {
+        station: Station::new(),
+        number: 0,
+        start: 0,
+        size: 0,
+        cut: false,
+        reading: true,
+        filled: 0,
+    }
 }
 
 // Answers the whole lines of the input buffer between two offsets while there is room, and holds the rest.

@@ -7,7 +7,6 @@ ghost use Rattle.replay.specs.TurnContracts.{Standing, Large, Turned};
 use feed::State;
 use libc::STDIN_FILENO;
 use libc::STDOUT_FILENO;
-use station::Station;
 
 mod feed;
 mod input;
@@ -88,17 +87,8 @@ fn turn(state: State, fd: i32, name: &[u8], buffer: &mut [u8], output: &mut [u8]
 fn replay(fd: i32, name: &[u8]) -> bool {
     let mut buffer = [0u8; BUFFER];
     let mut output = [0u8; BUFFER];
-    let state = State {
-        station: Station::new(),
-        number: 0,
-        start: 0,
-        size: 0,
-        cut: false,
-        reading: true,
-        filled: 0,
-    };
     let mut next = Outcome {
-        state,
+        state: feed::start(),
         going: true,
         whole: false,
     };

@@ -4,7 +4,7 @@ use mathlib.Core.Path.{sym}
 use native.Mathlib.Omega.{arith}
 use lib.ListN.{length-replicate}
 use borrow.Author.Needs.{needs}
-use Rattle.replay.specs.TurnLaws.{bufferSize, starts, large, turned}
+use Rattle.replay.specs.TurnLaws.{bufferSize, looping, large, turned}
 use Rattle.replay.specs.TurnLaws.{Looping}
 use Rattle.replay.proofs.replay.Statement.{statement}
 use Rattle.replay.proofs.replay.Tie as tie
@@ -16,7 +16,7 @@ abbrev μ-loop : tie.MeasureT-loop
 μ-loop fd name buffer₀ output₀ next₀ turns₀ buffer output next turns = turns
 
 loop-holds : tie.Need-loop-holds Inv-loop μ-loop
-loop-holds c = starts _ (length-replicate {A = ℕ} bufferSize 0) (length-replicate {A = ℕ} bufferSize 0)
+loop-holds c = looping _ _ _ (c .start .ensures) (length-replicate {A = ℕ} bufferSize 0) (length-replicate {A = ℕ} bufferSize 0)
 
 slice-aggregate-turn : tie.Need-slice-aggregate-turn Inv-loop μ-loop
 slice-aggregate-turn c = sym (c .before .before .before .before .loop .inv .readable)
