@@ -3,3 +3,4 @@ pub mod Shares
 pub mod ScriptContracts
 pub mod ShareLaws
 pub mod ReplayRunLaws
+pub mod ReplayExamples
