@@ -5,6 +5,9 @@ use borrow.Author.Needs.{needs}
 use Rattle.replay.proofs.turn.Statement.{statement}
 use Rattle.replay.proofs.turn.Tie as tie
 
+advance-requires : tie.Need-advance-requires
+advance-requires c κs = search needs
+
 returns-2 : tie.Need-returns-2
 returns-2 c = failed-turn (c .before .before .before .before .before .before .before .before .before .before .before .args .state)
 
@@ -24,7 +27,7 @@ pub turn-spec : {M : Type 1} → statement M
 turn-spec =
     tie.close
     (tie.spec
-    (λ c κs. search needs)
+    advance-requires
     (λ c. search needs)
     (λ c. search needs)
     (λ c. search needs)
