@@ -1,9 +1,9 @@
 // The input buffer: what is left of it goes to its front, and a line that fills it is shortened.
-ghost use Prim.Native.Nat.{_+_, _-_, _≤_, _<_};
+ghost use Prim.Native.Nat.{_+_, _≤_, _<_};
 ghost use mathlib.Core.Path.{_≡_};
 ghost use mathlib.Core.Bool.{false, cond};
 ghost use lib.ListN.{length, take, drop, set};
-ghost use Rattle.replay.specs.InputContracts.{isSpare, squeezed, longest, heldText, heldCut};
+ghost use Rattle.replay.specs.InputContracts.{isSpare, squeezed, longest, heldText, heldCut, Moves};
 
 const SPACE: u8 = 32;
 
@@ -15,7 +15,7 @@ pub(crate) fn move_down(buffer: &mut [u8], to: usize, from: usize, end: usize) -
     requires order { ⌜ to ≤ from ⌝ }
     requires part { ⌜ from ≤ end ⌝ }
     requires within { ⌜ end ≤ length (now buffer) ⌝ }
-    ensures end { λ r. ⌜ r ≡ to + (end - from) ⌝ }
+    ensures moves { λ r. ⌜ Moves to from end (now (buffer .entry)) r (now (buffer .exit)) ⌝ }
 {
     let mut next = to;
     let mut i = from;
