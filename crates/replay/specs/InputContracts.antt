@@ -21,7 +21,7 @@ squeezed after (c ∷ text) =
 unfoldable pub squeezedLine : List ℕ → List ℕ
 squeezedLine line = squeezed false (take (length line - 1) line) ++ drop (length line - 1) line
 
--- with one space between its words no call is longer
+-- a round limit: with one space between its words no call is longer than `callMost` (crate replay_line, LineBoundsLaws), and CutLaws shows that it is enough
 abbrev pub longest : ℕ
 longest = 1024
 

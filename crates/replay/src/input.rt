@@ -7,7 +7,7 @@ ghost use Rattle.replay.specs.InputContracts.{isSpare, squeezed, longest
 
 const SPACE: u8 = 32;
 
-// With one space between its words no call is longer.
+// A round limit, above the longest call with one space between its words (`callMost` of crate replay_line).
 pub const LONGEST: usize = 1024;
 
 // Moves the bytes between two offsets down to another one, and answers where they end.
