@@ -1,14 +1,15 @@
 -- What encoded calls come to: 31, 10, or the rules' run of the calls.
-use Prim.Native.Nat.{ℕ, _+_}
+use Prim.Native.Nat.{ℕ, zero, suc, _+_}
+use mathlib.Core.Path.{_≡_}
 use mathlib.Core.Bool.{cond}
-use mathlib.Core.List.{List, [], _∷_, _++_}
-use lib.ListN.{length, drop}
+use mathlib.Core.List.{List, [], _∷_, _++_, map}
+use lib.ListN.{length, take, drop}
 use lib.Dec.{leb}
 use Rattle.report.specs.Refusals.{noRoom}
 use Rattle.station.specs.declared.Station.{Station}
-use Rattle.sequence.specs.Steps.{Call, run, Returned, returnedBy}
+use Rattle.sequence.specs.Steps.{Call, CallAnswer, run, Returned, returnedBy}
 use Rattle.encoded.specs.Decoding.{Decoded, malformed, calls, decode}
-use Rattle.encoded.specs.Rows.{rowSize, encodeAnswer}
+use Rattle.encoded.specs.Rows.{rowSize, encodeAnswer, decodeAnswer, Fits}
 
 -- a cut header, an unknown opcode, data or lent bytes that are not there, or arena left over
 abbrev pub malformedCalls : ℕ
@@ -23,6 +24,23 @@ lents (t ∷ ts) = t .lent ++ lents ts
 unfoldable pub rows : List Returned → List ℕ
 rows [] = []
 rows (t ∷ ts) = encodeAnswer (t .answer) ++ rows ts
+
+-- each answer fits its row
+unfoldable pub AllFit : List Returned → Type 0
+AllFit [] = Unit {0}
+AllFit (t ∷ ts) = Fits (t .answer) × AllFit ts
+
+abbrev pub answersOf : List Returned → List CallAnswer
+answersOf ts = map (λ (t : Returned). t .answer) ts
+
+-- the answers that so many rows at the front of these bytes stand for
+unfoldable pub answersIn : (count : ℕ) → List ℕ → List CallAnswer
+answersIn zero bytes = []
+answersIn (suc count) bytes = decodeAnswer (take rowSize bytes) ∷ answersIn count (drop rowSize bytes)
+
+-- the rows of the calls at the front of these bytes stand for the answers of the rules' run
+abbrev pub ReadsBack : Station → List Call → List ℕ → Type 0
+ReadsBack st cs bytes = answersIn (length cs) bytes ≡ answersOf (returnedBy st cs)
 
 -- the number of bytes of the rows
 unfoldable pub rowsSize : List Call → ℕ

@@ -1,5 +1,5 @@
 -- The blocks and the arena of a list of calls, and the bounds within which they are bytes.
-use Prim.Native.Nat.{ℕ, _/_, _%_, _<_}
+use Prim.Native.Nat.{ℕ, _^_, _/_, _%_, _<_}
 use mathlib.Core.Path.{_≡_}
 use mathlib.Core.List.{List, [], _∷_, _++_}
 use lib.ListN.{length}
@@ -7,11 +7,15 @@ use Rattle.sequence.specs.Steps as steps
 use Rattle.encoded.specs.declared.block.Header.{Header}
 use Rattle.encoded.specs.Decoding.{calls, decode}
 
+-- the number of values of a byte
+abbrev pub byteValues : ℕ
+byteValues = 256
+
 abbrev pub low : ℕ → ℕ
-low n = n % 256
+low n = n % byteValues
 
 abbrev pub high : ℕ → ℕ
-high n = n / 256
+high n = n / byteValues
 
 abbrev pub encodeHeader : Header → List ℕ
 encodeHeader h =
@@ -49,19 +53,25 @@ unfoldable pub arenaOf : List steps.Call → List ℕ
 arenaOf [] = []
 arenaOf (c ∷ cs) = steps.lentOf c ++ arenaOf cs
 
+-- a number of one byte, of two and of four
+abbrev pub Byte : ℕ → Type 0
+Byte n = n < byteValues
+
+abbrev pub Short : ℕ → Type 0
+Short n = n < byteValues ^ 2
+
+abbrev pub Long : ℕ → Type 0
+Long n = n < byteValues ^ 4
+
 unfoldable pub Bytes : List ℕ → Type 0
 Bytes [] = Unit {0}
-Bytes (x ∷ xs) = (x < 256) × Bytes xs
-
--- a number of two bytes
-abbrev pub Short : ℕ → Type 0
-Short n = n < 65536
+Bytes (x ∷ xs) = Byte x × Bytes xs
 
 -- the bounds of the encoding: byte arguments and lent bytes are bytes; ticks, offset and both lengths are numbers of two bytes
 pub record Within (call : steps.Call) : Type 0 where
-  pub a : headerFor call .a < 256
-  pub b : headerFor call .b < 256
-  pub c : headerFor call .c < 256
+  pub a : Byte (headerFor call .a)
+  pub b : Byte (headerFor call .b)
+  pub c : Byte (headerFor call .c)
   pub ticks : Short (headerFor call .ticks)
   pub offset : Short (headerFor call .offset)
   pub size : Short (headerFor call .size)

@@ -1,5 +1,5 @@
 -- Every list of calls has blocks and an arena that decode to it, and within the bounds both are bytes.
-use Prim.Native.Nat.{ℕ, zero, suc, _+_, _≤_, _<_}
+use Prim.Native.Nat.{ℕ, zero, suc, _+_, _≤_}
 use mathlib.Core.Path.{_≡_, refl, _∙_, ap}
 use mathlib.Core.Bool.{true, cond}
 use mathlib.Core.List.{List, [], _∷_, _++_}
@@ -14,11 +14,11 @@ use Rattle.sequence.specs.Steps as steps
 use Rattle.encoded.specs.declared.block.Header.{Header}
 use Rattle.encoded.specs.Blocks.{headerSize, lastOpcode, headerOf, lentSize, isWhole, writerOf, callOf}
 use Rattle.encoded.specs.Decoding.{Decoded, malformed, calls, followed, firstCall, restOf, decodeBy, decode}
-use Rattle.encoded.specs.Encoding.{low, high, encodeHeader, headerFor, encodeCall, encode, arenaOf, Bytes, Short, Within, AllWithin, Encoded}
+use Rattle.encoded.specs.Encoding.{byteValues, low, high, encodeHeader, headerFor, encodeCall, encode, arenaOf, Byte, Short, Bytes, Within, AllWithin, Encoded}
 
 -- two bytes carry a number
 joined-law : (n : ℕ) → joined2 (low n) (high n) ≡ n
-joined-law n = omega (arith, div-add-mod' n 256)
+joined-law n = omega (arith, div-add-mod' n byteValues)
 
 header-law : (h : Header) (rest : List ℕ) → headerOf (encodeHeader h ++ rest) ≡ h
 unfolding headerOf
@@ -78,10 +78,10 @@ unfolding Bytes
 bytes-append [] ys p q = q
 bytes-append (x ∷ xs) ys p q = (p .0, bytes-append xs ys (p .1) q)
 
-low-byte : (n : ℕ) → low n < 256
+low-byte : (n : ℕ) → Byte (low n)
 low-byte n = omega arith
 
-high-byte : (n : ℕ) → Short n → high n < 256
+high-byte : (n : ℕ) → Short n → Byte (high n)
 high-byte n h = omega arith
 
 -- both parts of one call are bytes
@@ -89,7 +89,7 @@ call-bytes : (c : steps.Call) → Within c → Bytes (encodeCall c) × Bytes (st
 unfolding Bytes
 call-bytes c w =
     let h = headerFor c in
-    let op : h .op < 256 = omega (arith, leb-true (h .op) lastOpcode (says c .known)) in
+    let op : Byte (h .op) = omega (arith, leb-true (h .op) lastOpcode (says c .known)) in
     ((op, (w .a, (w .b, (w .c, (low-byte (h .ticks), (high-byte (h .ticks) (w .ticks), (low-byte (h .offset), (high-byte (h .offset) (w .offset), (low-byte (h .size), (high-byte (h .size) (w .size), (low-byte (h .lent), (high-byte (h .lent) (w .room), w .bytes)))))))))))), w .lent)
 
 all-bytes : (cs : List steps.Call) → AllWithin cs → Bytes (encode cs) × Bytes (arenaOf cs)

@@ -8,6 +8,8 @@ pub mod EncodedContracts
 pub mod DecodingLaws
 pub mod EncodingLaws
 pub mod RowsLaws
+pub mod WithinLaws
+pub mod ReadBackLaws
 pub mod CallsLaws
 pub mod CheckLaws
 pub mod PerformLaws

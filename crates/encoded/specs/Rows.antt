@@ -1,5 +1,5 @@
 -- The row of one answer: ten bytes, of which the first says the kind and the others carry its values, the lowest byte of a number first.
-use Prim.Native.Nat.{ℕ, _<_}
+use Prim.Native.Nat.{ℕ}
 use mathlib.Core.Path.{_≡_}
 use mathlib.Core.Bool.{Bool, true, false, cond}
 use mathlib.Core.List.{List, [], _∷_, _++_}
@@ -11,7 +11,7 @@ use Rattle.port.specs.Answers as answers
 use Rattle.port.specs.Waiting as waiting
 use Rattle.station.specs.Stations.{portCount}
 use Rattle.sequence.specs.Steps.{CallAnswer, taken, written, cancelled, ticked}
-use Rattle.encoded.specs.Encoding.{low, high}
+use Rattle.encoded.specs.Encoding.{low, high, Short, Long}
 
 abbrev pub rowSize : ℕ
 rowSize = 10
@@ -98,6 +98,6 @@ decodeAnswer row =
 
 -- what a row can carry: two bytes of a WPID and of a count of bytes written, four of a bitfield, and seven counts
 pub record Fits (x : CallAnswer) : Type 0 where
-  pub paired : (port : ℕ) (more : Bool) (wpid reports dropped : ℕ) → x ≡ taken (answers.notice (answers.paired port more wpid reports dropped)) → (wpid < 65536) × (reports < 4294967296)
-  pub written : (n : ℕ) → x ≡ written (writing.wrote n) → n < 65536
+  pub paired : (port : ℕ) (more : Bool) (wpid reports dropped : ℕ) → x ≡ taken (answers.notice (answers.paired port more wpid reports dropped)) → Short wpid × Long reports
+  pub written : (n : ℕ) → x ≡ written (writing.wrote n) → Short n
   pub counts : (counts : List ℕ) → x ≡ ticked counts → length counts ≡ portCount

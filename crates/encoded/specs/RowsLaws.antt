@@ -1,5 +1,5 @@
 -- A row tells its answer: every kind, refusal number and value reads back.
-use Prim.Native.Nat.{ℕ, _<_}
+use Prim.Native.Nat.{ℕ}
 use mathlib.Core.Path.{_≡_, refl, sym, _∙_, ap}
 use mathlib.Core.Bool.{true, false}
 use mathlib.Core.List.{List, [], _∷_}
@@ -12,16 +12,16 @@ use Rattle.port.specs.Answers as answers
 use Rattle.port.specs.Waiting as waiting
 use Rattle.station.specs.declared.Station.{Station}
 use Rattle.sequence.specs.Steps.{Call, CallAnswer, taken, written, cancelled, ticked, step, returnedBy}
-use Rattle.encoded.specs.Encoding.{low, high}
+use Rattle.encoded.specs.Encoding.{byteValues, low, high, Short, Long}
 use Rattle.encoded.specs.Rows.{rowSize, encodeAnswer, at, decodeAnswer, Fits}
 use Rattle.encoded.specs.EncodedRuns.{rows, rowsSize}
 
-two : (n : ℕ) → n < 65536 → joined2 (low n) (low (high n)) ≡ n
-two n h = omega (arith, div-add-mod' n 256, div-add-mod' (high n) 256)
+two : (n : ℕ) → Short n → joined2 (low n) (low (high n)) ≡ n
+two n h = omega (arith, div-add-mod' n byteValues, div-add-mod' (high n) byteValues)
 
-four : (n : ℕ) → n < 4294967296 → joined4 (low n) (low (high n)) (low (high (high n))) (low (high (high (high n)))) ≡ n
+four : (n : ℕ) → Long n → joined4 (low n) (low (high n)) (low (high (high n))) (low (high (high (high n)))) ≡ n
 four n h =
-    omega (arith, div-add-mod' n 256, div-add-mod' (high n) 256, div-add-mod' (high (high n)) 256, div-add-mod' (high (high (high n))) 256)
+    omega (arith, div-add-mod' n byteValues, div-add-mod' (high n) byteValues, div-add-mod' (high (high n)) byteValues, div-add-mod' (high (high (high n))) byteValues)
 
 seven : (xs : List ℕ) → length xs ≡ 7 → at xs 0 ∷ at xs 1 ∷ at xs 2 ∷ at xs 3 ∷ at xs 4 ∷ at xs 5 ∷ at xs 6 ∷ [] ≡ xs
 seven [] e = absurd (omega arith)

@@ -1,7 +1,7 @@
 // The row of one answer: the kind, and the answer's values.
 ghost use mathlib.Core.Path.{_≡_};
-ghost use Prim.Native.Nat.{_%_};
 ghost use Rattle.port.specs.Answers.{paired};
+ghost use Rattle.encoded.specs.Encoding.{low};
 ghost use Rattle.encoded.specs.Rows.{bitOf, aboutRow, noticeRow, takenRow, writtenRow, cancelledRow, tickedRow};
 ghost use Rattle.port.specs.PortContracts.{aboutOf, takenOf, noticeOf, cancelOf};
 ghost use Rattle.frame.specs.FrameContracts.{writtenOf};
@@ -14,10 +14,13 @@ use port::waiting::Cancelled;
 // The longest answer is a pairing: kind, port, more, two bytes of WPID, four of bitfield, and the count of dropped requests.
 pub const ROW: usize = 1 + 1 + 1 + 2 + 4 + 1;
 
+// The number of values of a byte.
+const VALUES: usize = 256;
+
 fn low(n: usize) -> u8
-    ensures { λ r. ⌜ r ≡ n % 256 ⌝ }
+    ensures { λ r. ⌜ r ≡ low n ⌝ }
 {
-    (n % 256) as u8
+    (n % VALUES) as u8
 }
 
 fn bit(b: bool) -> u8
@@ -49,18 +52,18 @@ fn of_about(kind: u8, about: About, code: u8, error: u8) -> [u8; ROW]
 fn of_paired(port: u8, more: bool, wpid: usize, reports: usize, dropped: u8) -> [u8; ROW]
     ensures { λ r. ⌜ r ≡ noticeRow (paired port more wpid reports dropped) ⌝ }
 {
-    let high = reports / 256;
-    let higher = high / 256;
+    let high = reports / VALUES;
+    let higher = high / VALUES;
     [
         8,
         port,
         bit(more),
         low(wpid),
-        low(wpid / 256),
+        low(wpid / VALUES),
         low(reports),
         low(high),
         low(higher),
-        low(higher / 256),
+        low(higher / VALUES),
         dropped,
     ]
 }
@@ -107,7 +110,7 @@ pub fn of_written(answer: Written) -> [u8; ROW]
 {
     match answer {
         Written::Refused(refusal) => [12, refusal.number(), 0, 0, 0, 0, 0, 0, 0, 0],
-        Written::Bytes(n) => [13, low(n), low(n / 256), 0, 0, 0, 0, 0, 0, 0],
+        Written::Bytes(n) => [13, low(n), low(n / VALUES), 0, 0, 0, 0, 0, 0, 0],
     }
 }
 

@@ -2,10 +2,10 @@
 use Prim.Native.Nat.{ℕ, _+_}
 use mathlib.Core.List.{List, [], _∷_, _++_}
 use mathlib.Core.Bool.{cond}
-use lib.ListN.{take}
+use lib.ListN.{length, take}
 use Rattle.report.specs.Ports.{deviceCount}
 use Rattle.text.specs.Words.{ascii, hex, decimal}
-use Rattle.text.specs.Texts.{each, byteMost, linkText, linkMost, versionText, versionMost, batteryText, batteryMost}
+use Rattle.text.specs.Texts.{each, digits16, digits32, byteMost, linkText, linkMost, versionText, versionMost, batteryText, batteryMost}
 use Rattle.frame.specs.Writing.{WriteOutcome, frameAt}
 use Rattle.port.specs.Places.{countWaiting}
 use Rattle.port.specs.declared.Port.{Port}
@@ -22,25 +22,27 @@ tabbed [] = newline ∷ []
 tabbed (field ∷ []) = field ++ (newline ∷ [])
 tabbed (field ∷ next ∷ fields) = field ++ (tab ∷ tabbed (next ∷ fields))
 
-unfoldable pub header : List ℕ
-header =
-    tabbed
-    (ascii "port"
+abbrev pub fieldNames : List (List ℕ)
+fieldNames =
+    ascii "port"
     ∷ ascii "wpid"
     ∷ ascii "reports"
     ∷ ascii "link"
     ∷ ascii "version"
     ∷ ascii "battery"
     ∷ ascii "waiting"
-    ∷ [])
+    ∷ []
+
+unfoldable pub header : List ℕ
+header = tabbed fieldNames
 
 -- the fields in the header's order: hexadecimal at fixed width, others decimal
 unfoldable pub deviceLine : (number : ℕ) → Port → List ℕ
 deviceLine number p =
     tabbed
     (decimal number
-    ∷ hex 4 (p .wpid)
-    ∷ hex 8 (p .reports)
+    ∷ hex digits16 (p .wpid)
+    ∷ hex digits32 (p .reports)
     ∷ linkText (p .up)
     ∷ versionText (p .version)
     ∷ batteryText (p .battery)
@@ -49,7 +51,8 @@ deviceLine number p =
 
 -- no line is longer: the fields at their longest, and the byte after each
 abbrev pub lineMost : ℕ
-lineMost = byteMost + 4 + 8 + linkMost + versionMost + batteryMost + byteMost + 7
+lineMost =
+    byteMost + digits16 + digits32 + linkMost + versionMost + batteryMost + byteMost + length fieldNames
 
 -- paired devices alone
 unfoldable pub deviceText : (number : ℕ) → Port → List ℕ

@@ -17,17 +17,19 @@ const NEWLINE: u8 = b'\n';
 // Devices 1 to 6 have positions 0 to 5 among the ports; the receiver comes last.
 const DEVICES: usize = report::DEVICES as usize;
 
-// The header, and the longest line of a device: its fields, and the byte after each.
-const HEADER: usize = 47;
+// The header, and the longest line of a device: the fields, and the byte after each.
+const FIELDS: usize = 7;
+
+const HEADER: usize = 4 + 4 + 7 + 4 + 7 + 7 + 7 + FIELDS;
 
 const LINE: usize = text::BYTE_MOST
-    + 4
-    + 8
+    + text::DIGITS_16 as usize
+    + text::DIGITS_32 as usize
     + text::LINK_MOST
     + text::VERSION_MOST
     + text::BATTERY_MOST
     + text::BYTE_MOST
-    + 7;
+    + FIELDS;
 
 // Room for every listing.
 const ROOM: usize = HEADER + LINE * DEVICES;
@@ -41,9 +43,9 @@ fn put_line(buffer: &mut [u8], at: usize, port: Port, number: u8) -> usize
     let places = port.places;
     let at = text::put_small(buffer, at, number);
     let at = text::put_byte(buffer, at, TAB);
-    let at = text::put_hex(buffer, at, 4, port.wpid as usize);
+    let at = text::put_hex(buffer, at, text::DIGITS_16, port.wpid as usize);
     let at = text::put_byte(buffer, at, TAB);
-    let at = text::put_hex(buffer, at, 8, port.reports as usize);
+    let at = text::put_hex(buffer, at, text::DIGITS_32, port.reports as usize);
     let at = text::put_byte(buffer, at, TAB);
     let at = text::put_link(buffer, at, port.up);
     let at = text::put_byte(buffer, at, TAB);

@@ -1,115 +1,152 @@
--- Document 01, "Writing", "Taking a HID++ report" and "Taking a DJ report": the waiting requests that a call begins and ends. Each count is that of places emptied.
-use Prim.Native.Nat.{ℕ, _+_}
+-- Document 01, "Writing", "Taking a HID++ report" and "Taking a DJ report": what a call makes of each place of a port, and what its answer says of the requests that ended. Each count is that of places emptied.
+use Prim.Native.Nat.{ℕ, _+_, _-_, _<_}
 use mathlib.Core.Path.{_≡_}
-use mathlib.Core.Bool.{Bool, true, false, not, _&&_, _||_}
+use mathlib.Core.Bool.{Bool, true, false, cond, not, _&&_}
 use mathlib.Core.List.{List, [], _∷_}
-use lib.ListN.{set}
+use lib.ListN.{getD}
 use lib.Dec.{eqb}
 use Rattle.frame.specs.Writing as writing
 use Rattle.port.specs.declared.Port.{Port}
+use Rattle.port.specs.declared.Request.{Request}
 use Rattle.port.specs.Records.{emptyPlace, requestIn}
-use Rattle.port.specs.Places.{matches, countWaiting}
+use Rattle.port.specs.Places.{isEmpty, matches, sumOver, countWaiting}
+use Rattle.port.specs.Ticks.{withTicks}
 use Rattle.port.specs.Waiting as waiting
-use Rattle.port.specs.Answers.{About, Answer, refused, reply, stray, plain, event, failed, radio, notice, Notice, unpaired, paired, emptyList, link, other, Result}
-use Rattle.dj.specs.DjTaking.{wpidOf, isPairedWith}
-use Rattle.station.specs.declared.Station.{Station}
-use Rattle.sequence.specs.Steps.{Call, take, request, cancel, tick, write, CallAnswer, taken, written, cancelled, ticked, step}
+use Rattle.port.specs.Answers.{Answer, refused, reply, stray, plain, event, failed, radio, notice, Notice, unpaired, paired, emptyList, link, other}
+use Rattle.request.specs.Requesting.{pendingOf}
+use Rattle.station.specs.Stations.{positionOf}
+use Rattle.sequence.specs.Steps.{Call, take, request, cancel, tick, write, CallAnswer, taken, written, cancelled, ticked}
+use Rattle.sequence.specs.Transcripts.{Entry}
 
--- the requests that a notice counts as dropped
-abbrev pub droppedBy : Notice → ℕ
-droppedBy (unpaired port dropped) = dropped
-droppedBy (paired port more wpid reports dropped) = dropped
-droppedBy emptyList = 0
-droppedBy (link port up) = 0
-droppedBy (other port kind) = 0
+-- the ways in which a waiting request ends
+pub data Way : Type 0 where
+  byReply byError byExpiry byCancel byDrop : Way
 
--- the requests that a take ends, by its answer: one by a reply, one by an error that is not stray, and those that a notice counts
-abbrev pub endedBy : Answer → ℕ
-endedBy (refused number) = 0
-endedBy (reply a) = 1
-endedBy (stray a) = 0
-endedBy (plain a) = 0
-endedBy (event a) = 0
-endedBy (failed a code kind) = 1
-endedBy (radio kind start size) = 0
-endedBy (notice n) = droppedBy n
+abbrev pub wayNumber : Way → ℕ
+wayNumber byReply = 0
+wayNumber byError = 1
+wayNumber byExpiry = 2
+wayNumber byCancel = 3
+wayNumber byDrop = 4
+
+abbrev pub isWay : Way → Way → Bool
+isWay w v = eqb (wayNumber w) (wayNumber v)
+
+-- what an answer says of requests that ended
+pub data Ending : Type 0 where
+  nothing : Ending
+  -- the one with these bytes 2 and 3 on this port, in this way
+  one : (way : Way) (port byte2 byte3 : ℕ) → Ending
+  -- all that waited on this port, by their number
+  dropped : (port count : ℕ) → Ending
+  -- those with one tick left: a count for each port
+  expired : (counts : List ℕ) → Ending
+
+abbrev pub noticeEnding : Notice → Ending
+noticeEnding (unpaired port count) = dropped port count
+noticeEnding (paired port more wpid reports count) = dropped port count
+noticeEnding emptyList = nothing
+noticeEnding (link port up) = nothing
+noticeEnding (other port kind) = nothing
+
+abbrev pub takeEnding : Answer → Ending
+takeEnding (refused number) = nothing
+takeEnding (reply a) = one byReply (a .port) (a .byte2) (a .byte3)
+takeEnding (stray a) = nothing
+takeEnding (plain a) = nothing
+takeEnding (event a) = nothing
+takeEnding (failed a code kind) = one byError (a .port) (a .byte2) (a .byte3)
+takeEnding (radio kind start size) = nothing
+takeEnding (notice n) = noticeEnding n
+
+-- a cancel answers only that it was done: which request it ended, the call says
+abbrev pub cancelEnding : ℕ → ℕ → ℕ → waiting.CancelAnswer → Ending
+cancelEnding device byte2 byte3 (waiting.CancelAnswer.refused number) = nothing
+cancelEnding device byte2 byte3 waiting.done = one byCancel device byte2 byte3
+
+abbrev pub cancelledEnding : Call → waiting.CancelAnswer → Ending
+cancelledEnding (take bytes) a = nothing
+cancelledEnding (request device byte2 byte3 ticks params offset lent) a = nothing
+cancelledEnding (cancel device byte2 byte3) a = cancelEnding device byte2 byte3 a
+cancelledEnding tick a = nothing
+cancelledEnding (write writer offset lent) a = nothing
+
+abbrev pub endingOf : Call → CallAnswer → Ending
+endingOf c (taken a) = takeEnding a
+endingOf c (written a) = nothing
+endingOf c (cancelled a) = cancelledEnding c a
+endingOf c (ticked counts) = expired counts
+
+-- whether it ends this request, which waits on the port of a number, in this way
+abbrev pub endsBy : Way → ℕ → Ending → Request → Bool
+endsBy w n nothing r = false
+endsBy w n (one way port byte2 byte3) r = eqb port n && (isWay w way && matches byte2 byte3 r)
+endsBy w n (dropped port count) r = eqb port n && (isWay w byDrop && (not (isEmpty r) && not (eqb count 0)))
+endsBy w n (expired counts) r = isWay w byExpiry && eqb (r .ticks) 1
+
+abbrev pub oneIf : Bool → ℕ
+oneIf b = cond b 1 0
+
+-- how many it ends on that port in that way
+abbrev pub endedBy : Way → ℕ → Ending → ℕ
+endedBy w n nothing = 0
+endedBy w n (one way port byte2 byte3) = oneIf (eqb port n && isWay w way)
+endedBy w n (dropped port count) = cond (eqb port n && isWay w byDrop) count 0
+endedBy w n (expired counts) = cond (isWay w byExpiry) (getD counts (positionOf n) 0) 0
+
+-- in any way
+abbrev pub endedOn : ℕ → Ending → ℕ
+endedOn n e =
+    endedBy byReply n e + (endedBy byError n e + (endedBy byExpiry n e + (endedBy byCancel n e + endedBy byDrop n e)))
+
+-- how many requests it begins on that port: one whose frame is written waits
+abbrev pub wrote : writing.WriteAnswer → Bool
+wrote (writing.refused number) = false
+wrote (writing.wrote n) = true
+
+abbrev pub isWritten : CallAnswer → Bool
+isWritten (taken a) = false
+isWritten (written a) = wrote a
+isWritten (cancelled a) = false
+isWritten (ticked counts) = false
+
+abbrev pub begunOn : ℕ → Call → CallAnswer → ℕ
+begunOn n (take bytes) a = 0
+begunOn n (request device byte2 byte3 ticks params offset lent) a = oneIf (eqb device n && isWritten a)
+begunOn n (cancel device byte2 byte3) a = 0
+begunOn n tick a = 0
+begunOn n (write writer offset lent) a = 0
+
+-- what a call with its answer makes of one place of the port of a number: it stays, is lowered by a tick, is filled by this very request, or is emptied in one of the ways
+pub data Fate (n : ℕ) (c : Call) (a : CallAnswer) (before after : Request) : Type 0 where
+  stays : ((w : Way) → endsBy w n (endingOf c a) before ≡ false) → after ≡ before → Fate n c a before after
+  lowered : c ≡ tick → 1 < before .ticks → after ≡ withTicks before (before .ticks - 1) → Fate n c a before after
+  filled : (byte2 byte3 ticks : ℕ) (params : List ℕ) (offset : ℕ) (lent : List ℕ) → c ≡ request n byte2 byte3 ticks params offset lent → isWritten a ≡ true → isEmpty before ≡ true → after ≡ pendingOf byte2 byte3 ticks params → Fate n c a before after
+  emptied : (w : Way) → endsBy w n (endingOf c a) before ≡ true → isEmpty before ≡ false → after ≡ emptyPlace → Fate n c a before after
 
 -- the requests that wait on a port
 abbrev pub waitingOn : Port → ℕ
 waitingOn p = countWaiting (p .places)
 
--- the answer ends a request with these bytes 2 and 3: it is its reply, or an error for it
-pub data Closes : ℕ → ℕ → Answer → Type 0 where
-  byReply : {a : About} → Closes (a .byte2) (a .byte3) (reply a)
-  byError : {a : About} {code kind : ℕ} → Closes (a .byte2) (a .byte3) (failed a code kind)
+-- from the port p to the port q, by a call with its answer
+pub record EndsAt (n : ℕ) (c : Call) (a : CallAnswer) (p q : Port) : Type 0 where
+  -- each place
+  pub fate : (place : ℕ) → Fate n c a (requestIn (p .places) place) (requestIn (q .places) place)
+  -- for each way, as many places are emptied in it as the answer says
+  pub counted : (w : Way) → sumOver (λ r. oneIf (endsBy w n (endingOf c a) r)) (p .places) ≡ endedBy w n (endingOf c a)
+  -- what waited or begins waits or ends
+  pub balance : waitingOn q + endedOn n (endingOf c a) ≡ waitingOn p + begunOn n c a
 
--- a HID++ report ends no request, or the one that its answer names; the other places stay
-pub data EndsOne (p : Port) (r : Result) : Type 0 where
-  endsNone : endedBy (r .answer) ≡ 0 → r .port .places ≡ p .places → EndsOne p r
-  endsOne : (place byte2 byte3 : ℕ) → matches byte2 byte3 (requestIn (p .places) place) ≡ true → Closes byte2 byte3 (r .answer) → r .port .places ≡ set (p .places) place emptyPlace → EndsOne p r
+-- over a transcript, from the answers given: how many requests ended on the port of a number in each way, and how many began
+unfoldable pub endedIn : Way → ℕ → List Entry → ℕ
+endedIn w n [] = 0
+endedIn w n (e ∷ es) = endedBy w n (endingOf (e .call) (e .result .answer)) + endedIn w n es
 
--- what waited waits or ends
-abbrev pub Counted : Port → Result → Type 0
-Counted p r = waitingOn (r .port) + endedBy (r .answer) ≡ waitingOn p
+unfoldable pub begunIn : ℕ → List Entry → ℕ
+begunIn n [] = 0
+begunIn n (e ∷ es) = begunOn n (e .call) (e .result .answer) + begunIn n es
 
--- a DJ report that makes the port fresh: 0x40, and 0x41 with another WPID
-abbrev pub makesFresh : Port → ℕ → List ℕ → Bool
-makesFresh p kind bytes = eqb kind 0x40 || (eqb kind 0x41 && not (isPairedWith p (wpidOf bytes)))
-
--- it ends all that waited, and counts them; any other ends none, and leaves the places as they were
-pub data DjEnds (p : Port) (kind : ℕ) (bytes : List ℕ) (r : Result) : Type 0 where
-  dropsAll : makesFresh p kind bytes ≡ true → endedBy (r .answer) ≡ waitingOn p → waitingOn (r .port) ≡ 0 → DjEnds p kind bytes r
-  dropsNone : makesFresh p kind bytes ≡ false → endedBy (r .answer) ≡ 0 → r .port .places ≡ p .places → DjEnds p kind bytes r
-
--- the sum of a list of counts
-unfoldable pub sumOf : List ℕ → ℕ
-sumOf [] = 0
-sumOf (n ∷ ns) = n + sumOf ns
-
--- the requests that wait on all of the ports
-unfoldable pub waitingIn : List Port → ℕ
-waitingIn [] = 0
-waitingIn (p ∷ ps) = waitingOn p + waitingIn ps
-
--- the requests that a call ends, by its answer
-abbrev pub cancelEnds : waiting.CancelAnswer → ℕ
-cancelEnds (waiting.CancelAnswer.refused number) = 0
-cancelEnds waiting.done = 1
-
-abbrev pub endedIn : CallAnswer → ℕ
-endedIn (taken a) = endedBy a
-endedIn (written a) = 0
-endedIn (cancelled a) = cancelEnds a
-endedIn (ticked counts) = sumOf counts
-
--- and those that it begins: a request whose frame is written waits
-abbrev pub writeBegins : writing.WriteAnswer → ℕ
-writeBegins (writing.refused number) = 0
-writeBegins (writing.wrote n) = 1
-
-abbrev pub answerBegins : CallAnswer → ℕ
-answerBegins (taken a) = 0
-answerBegins (written a) = writeBegins a
-answerBegins (cancelled a) = 0
-answerBegins (ticked counts) = 0
-
-abbrev pub begunIn : Call → CallAnswer → ℕ
-begunIn (take bytes) answer = 0
-begunIn (request device byte2 byte3 ticks params offset lent) answer = answerBegins answer
-begunIn (cancel device byte2 byte3) answer = 0
-begunIn tick answer = 0
-begunIn (write writer offset lent) answer = 0
-
--- one step: what waited or begins waits or ends
-abbrev pub Balanced : Station → Call → Type 0
-Balanced st c =
-    waitingIn (step st c .station .ports) + endedIn (step st c .answer) ≡ waitingIn (st .ports) + begunIn c (step st c .answer)
-
--- all that a run ends, and begins
-unfoldable pub endedAll : Station → List Call → ℕ
-endedAll st [] = 0
-endedAll st (c ∷ cs) = endedIn (step st c .answer) + endedAll (step st c .station) cs
-
-unfoldable pub begunAll : Station → List Call → ℕ
-begunAll st [] = 0
-begunAll st (c ∷ cs) = begunIn c (step st c .answer) + begunAll (step st c .station) cs
+-- requests accepted on a port equal those answered by reply, by error, expired, cancelled, dropped, plus those that wait
+abbrev pub Accounted : ℕ → List Entry → Port → Type 0
+Accounted n es p =
+    begunIn n es ≡ endedIn byReply n es + (endedIn byError n es + (endedIn byExpiry n es + (endedIn byCancel n es + (endedIn byDrop n es + waitingOn p))))

@@ -5,6 +5,7 @@ use mathlib.Core.Bool.{Bool, true, false}
 use mathlib.Core.List.{List}
 use lib.ListN.{length}
 use Rattle.report.specs.declared.FeatureIndex.{FeatureIndex}
+use Rattle.frame.specs.Forbidden.{isAskable}
 use Rattle.port.specs.declared.Port.{Port}
 use Rattle.port.specs.declared.Request.{Request}
 use Rattle.port.specs.Records.{placeCount, featureCount, emptyPlace, requestIn, featureAt}
@@ -14,9 +15,10 @@ use Rattle.request.specs.Requesting.{maxTicks}
 use Rattle.station.specs.declared.Station.{Station}
 use Rattle.station.specs.Stations.{portCount, receiverPosition, portAt}
 
--- a place: at most 255 ticks left; one with 0, which is empty, is as fresh
+-- a place: at most 255 ticks left; byte 2 of a request that waits is 0x00 to 0x3F or 0x80 to 0x83; a place with 0 ticks, which is empty, is as fresh
 pub record SoundPlace (r : Request) : Type 0 where
   pub ticks : r .ticks ≤ maxTicks
+  pub askable : isEmpty r ≡ false → isAskable (r .byte2 .0) ≡ true
   pub empty : isEmpty r ≡ true → r ≡ emptyPlace
 
 -- two places where requests with the same bytes 2 and 3 wait are the same place

@@ -24,7 +24,7 @@ use Rattle.reach.specs.Sound.{SoundPlace, Unique, SoundPlaces, SoundFeat
 -- a fresh place
 sound-empty : SoundPlace emptyPlace
 unfolding emptyPlace
-sound-empty = record { ticks = lit≤ tt; empty = λ e. refl }
+sound-empty = record { ticks = lit≤ tt; askable = λ e. absurd (true≢false e); empty = λ e. refl }
 
 -- a place after a tick
 sound-ticked : (r : Request) → SoundPlace r → SoundPlace (afterTick r)
@@ -34,6 +34,7 @@ sound-ticked r s =
     (λ e. by-case SoundPlace (eqb (r .ticks) 1) (λ q. sound-empty)
     (λ q. record {
       ticks = omega (arith, s .ticks);
+      askable = λ z. s .askable e;
       empty = λ z. absurd (omega (arith, eqb-false (r .ticks) 0 e, eqb-false (r .ticks) 1 q, eqb-true (r .ticks - 1) 0 z));
     }))
 

@@ -1,57 +1,101 @@
--- Document 01, "Refusal numbers" and "Sequences of calls": what a call comes to on the station, by its cases, and what calls reach.
-use Prim.Native.Nat.{ℕ, zero, suc, _+_, _-_, _<_}
+-- Document 01, "Writing" and "Sequences of calls": what a call comes to on the station, port by port, and what calls reach.
+use Prim.Native.Nat.{ℕ, _+_, _-_, _<_}
 use mathlib.Core.Path.{_≡_, refl, sym, _∙_, ap, subst}
-use mathlib.Core.Bool.{Bool, true, false, not, false≢true}
+use mathlib.Core.Bool.{Bool, true, false, cond, _&&_}
 use mathlib.Core.List.{List, [], _∷_, map}
-use native.Mathlib.Nat.{le-of-suc-le-suc, not-suc-le-zero, add-zero}
-use native.Mathlib.Decide.{decLt, ℕ-discrete}
+use native.Mathlib.Decide.{ℕ-discrete}
 use native.Mathlib.Omega.{arith}
-use lib.ListN.{length, getD, set, length-set, length-map, getD-replicate, List·getD-eq-default}
+use lib.ListN.{length, getD, set, length-set, length-map, getD-replicate}
+use lib.Seq.{getD-set-same, getD-set-other}
 use lib.Dec.{eqb}
-use borrow.Author.Tests.{eqb-true, eqb-false, ne-eqb}
+use borrow.Author.Tests.{eqb-true, eqb-false, eq-eqb, ne-eqb}
 use Rattle.report.specs.ChoicesLaws.{by-case}
-use Rattle.report.specs.Ports.{isDevice}
+use Rattle.report.specs.Ports.{isPort}
+use Rattle.report.specs.Sizes.{byte, hidppStart, djStart}
+use Rattle.report.specs.Reading.{Report, reportFrom}
 use Rattle.frame.specs.Writing as writing
 use Rattle.port.specs.declared.Port.{Port}
 use Rattle.port.specs.declared.Request.{Request}
-use Rattle.port.specs.Records.{emptyPlace, freshPort, withPlaces}
-use Rattle.port.specs.Places.{isEmpty, sumOver, oneIfWaiting, countWaiting}
+use Rattle.port.specs.Records.{emptyPlace, freshPort, requestIn, withPlaces}
+use Rattle.port.specs.Places.{isEmpty, firstAt, sumOver, oneIfWaiting, countWaiting}
 use Rattle.port.specs.Ticks.{afterTick, oneIfEnding, tickRule}
-use Rattle.listing.specs.Listing.{listingRule}
+use Rattle.port.specs.Answers.{Result}
+use Rattle.hidpp.specs.HidppTaking.{messageOf}
+use Rattle.request.specs.Requesting.{RequestAt, pendingOf}
 use Rattle.station.specs.declared.Station.{Station}
 use Rattle.station.specs.Stations.{portCount, positionOf, freshStation, noPort, portAt, withPort}
-use Rattle.station.specs.StationsLaws.{position-within, same-port}
-use Rattle.station.specs.StationCalls.{tickedPort, endedOn, tickAll}
-use Rattle.sequence.specs.Steps.{Writer, switch, getPaired, led, list, Call, take, request, cancel, tick, write, readOf, lentOf, Outcome, writerRule, step, run}
-use Rattle.sequence.specs.IndependenceLaws.{stored, elsewhere, ticked-at}
-use Rattle.reach.specs.Readings.{ReadFits}
-use Rattle.reach.specs.ReadingsLaws.{read-fits, receiver-kind}
+use Rattle.station.specs.StationsLaws.{position-within}
+use Rattle.station.specs.StationTaking.{storedAt}
+use Rattle.station.specs.StationCalls as stations
+use Rattle.station.specs.StationCalls.{tickedPort, tickAll}
+use Rattle.sequence.specs.Readings.{ReadFits}
+use Rattle.sequence.specs.ReadingsLaws.{dj-port, read-fits, receiver-kind}
+use Rattle.sequence.specs.Starts.{Start, fresh}
+use Rattle.sequence.specs.Steps.{Call, take, request, cancel, tick, write, CallAnswer, taken, written, cancelled, ticked, Outcome, takeStep, tickStep, step, run}
+use Rattle.sequence.specs.Transcripts.{transcript}
+use Rattle.sequence.specs.Remaining.{view}
+use Rattle.sequence.specs.NumbersLaws.{one-number}
+use Rattle.sequence.specs.IndependenceLaws.{stored, elsewhere, ticked-at, counted-at}
+use Rattle.reach.specs.ListsLaws.{found-passes, sum-set, after-map}
 use Rattle.reach.specs.Sound.{SoundPort, Reached}
 use Rattle.reach.specs.SoundLaws.{sound-ticks, sound-fresh}
-use Rattle.reach.specs.CallCases.{portFor, requestRefused, accepted, StepCase, unread, listEmpty, hidppAtPort, djAtPort, request5, requestAtPort, cancel5, cancelAtPort, tickAllPorts, writeOnly, Placed, AllPlaced}
-use Rattle.reach.specs.CallCasesLaws.{step-case}
-use Rattle.reach.specs.Refused.{writeRefused, isRefusal, Unchanged}
-use Rattle.reach.specs.Ends.{waitingOn, sumOf, waitingIn, endedIn, begunIn, Balanced, endedAll, begunAll}
-use Rattle.reach.specs.AtPortLaws.{Acts, hidpp-acts, dj-acts, request-acts, cancel-acts}
+use Rattle.reach.specs.SoundCallsLaws.{allowed, hidpp-sound, dj-sound, request-sound, cancel-sound}
+use Rattle.reach.specs.CallCases.{Placed, RequestCase, requestRefused, accepted, StepCase, unread, listEmpty, hidppAtPort, djAtPort, request5, requestAtPort, cancel5, cancelAtPort, tickAllPorts, writeOnly, AllPlaced}
+use Rattle.reach.specs.CallCasesLaws.{and-false, empty-place, step-case}
+use Rattle.reach.specs.Ends.{takeEnding, Way, byReply, byError, byExpiry, byCancel, byDrop, isWay, endingOf, nothing, endsBy, oneIf, begunOn, Fate, stays, lowered, filled, emptied, waitingOn, EndsAt, endedIn, begunIn, Accounted}
+use Rattle.reach.specs.EndsLaws.{Elsewhere, sum-zero, Change, same, empties, EndingAt, elsewhere as ends-elsewhere, hidpp-ends, dj-ends, cancel-ends, hidpp-apart, dj-apart, cancel-apart}
+use Rattle.reach.specs.Fields.{Field, takeLists, ChangesListed, Same}
+use Rattle.reach.specs.FieldsLaws.{Keeps, kept, keeps-all, hidpp-keeps, dj-keeps, request-keeps, cancel-keeps, tick-keeps}
 
--- a writer that is refused leaves the buffer as it was
-module _ (lent : List ℕ) where
-  abbrev LentKept : writing.WriteOutcome → Type 0
-  LentKept o = writeRefused (o .answer) ≡ true → o .lent ≡ lent
+pub all-placed : {st : Station} → Reached st → AllPlaced st
+all-placed k position h = k .each position h .waiting .all
 
-  frame-kept : (frame : List ℕ) (offset : ℕ) → LentKept (writing.frameAt frame offset lent)
-  unfolding writing.frameAt
-  frame-kept frame offset =
-      by-case LentKept (writing.fitsAt (length frame) offset (length lent)) (λ e r. absurd (false≢true r)) (λ e r. refl)
+-- what an answer says of the requests that ended is what becomes of the places, where the call begins none
+ends-only : (n : ℕ) (c : Call) (a : CallAnswer) {p q : Port} → begunOn n c a ≡ 0 → EndingAt n (endingOf c a) p q → EndsAt n c a p q
+ends-only n c a z e =
+    record { fate = λ place. go (e .change place); counted = e .counted; balance = omega (arith, e .balance, z) }
+  where
+    go : {before after : Request} → Change n (endingOf c a) before after → Fate n c a before after
+    go (same f h) = stays f h
+    go (empties w f g h) = emptied w f g h
 
-  writer-kept : (st : Station) (writer : Writer) (offset : ℕ) → LentKept (writerRule st writer offset lent)
-  unfolding writing.switchRule writing.getPairedRule writing.ledRule listingRule
-  writer-kept st (switch bits timeout) offset =
-      by-case LentKept (writing.hasReservedBits bits) (λ e r. refl) (λ e. frame-kept (writing.switchFrame bits timeout) offset)
-  writer-kept st getPaired offset = frame-kept writing.getPairedFrame offset
-  writer-kept st (led device leds) offset =
-      by-case LentKept (not (isDevice device)) (λ e r. refl) (λ e. frame-kept (writing.ledFrame device leds) offset)
-  writer-kept st list offset = frame-kept _ offset
+-- a request that is accepted fills the lowest empty place
+filled-at : (n byte2 byte3 ticks : ℕ) (params : List ℕ) (offset : ℕ) (lent : List ℕ) (p : Port) {r : RequestAt} → Placed p → RequestCase p n byte2 byte3 ticks params offset lent r → EndsAt n (request n byte2 byte3 ticks params offset lent) (written (r .answer)) p (r .port)
+unfolding withPlaces pendingOf
+filled-at n byte2 byte3 ticks params offset lent p placed (requestRefused h) =
+    ends-only n (request n byte2 byte3 ticks params offset lent) (written (writing.refused _)) (simp (eq-eqb n n refl)) (ends-elsewhere n p p nothing tt refl)
+filled-at n byte2 byte3 ticks params offset lent p {r} placed (accepted f _ l) =
+    record {
+      fate = λ place. go place (ℕ-discrete place free);
+      counted = λ w. sum-zero _ (λ r. refl) (p .places);
+      balance = simp (eq-eqb n n refl) (omega (arith, sum-set oneIfWaiting (p .places) free new emptyPlace within, before, after));
+    }
+  where
+    free : ℕ
+    free = firstAt isEmpty (p .places)
+
+    new : Request
+    new = pendingOf byte2 byte3 ticks params
+
+    within : firstAt isEmpty (p .places) < length (p .places)
+    within = empty-place p placed l
+
+    was : isEmpty (requestIn (p .places) (firstAt isEmpty (p .places))) ≡ true
+    was = found-passes isEmpty emptyPlace (p .places) within
+
+    before : oneIfWaiting (requestIn (p .places) (firstAt isEmpty (p .places))) ≡ 0
+    before = ap (λ (b : Bool). cond b 0 1) was
+
+    after : oneIfWaiting (pendingOf byte2 byte3 ticks params) ≡ 1
+    after = simp (ne-eqb ticks 0 (omega (arith, allowed byte2 byte3 ticks params (f .allowed) .0 .0)))
+
+    go : (place : ℕ) → Dec (place ≡ firstAt isEmpty (p .places)) → Fate n (request n byte2 byte3 ticks params offset lent) (written (r .answer)) (requestIn (p .places) place) (requestIn (set (p .places) (firstAt isEmpty (p .places)) (pendingOf byte2 byte3 ticks params)) place)
+    go place (yes e) =
+        filled byte2 byte3 ticks params offset lent refl refl
+        (subst (λ (i : ℕ). isEmpty (requestIn (p .places) i) ≡ true) (sym e) was)
+        (subst (λ (i : ℕ). requestIn (set (p .places) (firstAt isEmpty (p .places)) (pendingOf byte2 byte3 ticks params)) i ≡ pendingOf byte2 byte3 ticks params) (sym e) (getD-set-same (p .places) (firstAt isEmpty (p .places)) (pendingOf byte2 byte3 ticks params) emptyPlace within))
+    go place (no e) =
+        stays (λ w. refl) (getD-set-other (p .places) (firstAt isEmpty (p .places)) place (pendingOf byte2 byte3 ticks params) emptyPlace e)
 
 -- a tick ends those with one tick left
 tick-place : (r : Request) → oneIfWaiting (afterTick r) + oneIfEnding r ≡ oneIfWaiting r
@@ -69,151 +113,186 @@ unfolding sumOver
 tick-places [] = omega arith
 tick-places (r ∷ rs) = omega (arith, tick-place r, tick-places rs)
 
-tick-ports : (ps : List Port) → waitingIn (map tickedPort ps) + sumOf (map endedOn ps) ≡ waitingIn ps
-unfolding waitingIn sumOf tickedPort endedOn withPlaces tickRule
-tick-ports [] = omega arith
-tick-ports (p ∷ ps) = omega (arith, tick-places (p .places), tick-ports ps)
+module _ (n : ℕ) (counts : List ℕ) where
+  idle-tick : (r : Request) → isEmpty r ≡ true → (w : Way) → endsBy w n (endingOf tick (ticked counts)) r ≡ false
+  idle-tick r e w = simp (ne-eqb (r .ticks) 1 (omega (arith, eqb-true (r .ticks) 0 e))) (and-false (isWay w byExpiry))
+
+  tick-fate : (r : Request) → Fate n tick (ticked counts) r (afterTick r)
+  unfolding afterTick
+  tick-fate r =
+      by-case (Fate n tick (ticked counts) r) (isEmpty r) (λ e. stays (idle-tick r e) refl)
+      (λ e. by-case (Fate n tick (ticked counts) r) (eqb (r .ticks) 1) (λ q. emptied byExpiry q e refl)
+      (λ q. lowered refl (omega (arith, eqb-false (r .ticks) 0 e, eqb-false (r .ticks) 1 q)) refl))
+
+  tick-ends : (p : Port) → getD counts (positionOf n) 0 ≡ stations.endedOn p → EndsAt n tick (ticked counts) p (tickedPort p)
+  unfolding tickedPort stations.endedOn withPlaces tickRule emptyPlace
+  tick-ends p e =
+      record {
+        fate = after-map (Fate n tick (ticked counts)) emptyPlace afterTick (p .places) (stays (idle-tick emptyPlace refl) refl) tick-fate;
+        counted = λ w. go w (isWay w byExpiry) refl;
+        balance = omega (arith, tick-places (p .places), e);
+      }
+    where
+      go : (w : Way) (b : Bool) → isWay w byExpiry ≡ b → sumOver (λ r. oneIf (isWay w byExpiry && eqb (r .ticks) 1)) (p .places) ≡ cond (isWay w byExpiry) (getD counts (positionOf n) 0) 0
+      go w true h = simp h (sym e)
+      go w false h = simp h (sum-zero _ (λ r. refl) (p .places))
 
 tick-sound : (position : ℕ) (p : Port) → SoundPort position p → SoundPort position (tickedPort p)
 unfolding tickedPort withPlaces tickRule
 tick-sound position p s = record { receiver = s .receiver; indexes = s .indexes; waiting = sound-ticks (s .waiting) }
 
--- one port of the sum is exchanged for another
-exchange : (ports : List Port) (i : ℕ) (q d : Port) → i < length ports → waitingIn (set ports i q) + waitingOn (getD ports i d) ≡ waitingIn ports + waitingOn q
-unfolding waitingIn
-exchange [] i q d h = absurd (not-suc-le-zero h)
-exchange (p ∷ ps) zero q d h = omega arith
-exchange (p ∷ ps) (suc i) q d h = omega (arith, exchange ps i q d (le-of-suc-le-suc h))
+-- one call on a station that calls reach
+record Steps (st : Station) (c : Call) (o : Outcome) : Type 0 where
+  reached : Reached (o .station)
+  ends : (n : ℕ) → isPort n ≡ true → EndsAt n c (o .answer) (view n st) (view n (o .station))
+  changes : (n : ℕ) → isPort n ≡ true → ChangesListed n c (o .answer) (view n st) (view n (o .station))
 
--- a port that has places is one of the station's
-inside : (st : Station) (position : ℕ) → Placed (portAt st position) → position < length (st .ports)
-inside st position placed = go (decLt position (length (st .ports)))
-  where
-    go : Dec (position < length (st .ports)) → position < length (st .ports)
-    go (yes h) = h
-    go (no h) = absurd (omega (arith, placed, ap (λ (p : Port). length (p .places)) (List·getD-eq-default (st .ports) noPort {n = position} (omega arith))))
+module _ (st : Station) (k : Reached st) where
+  sound-at : (number : ℕ) → SoundPort (positionOf number) (view number st)
+  sound-at number = k .each (positionOf number) (position-within number)
 
--- from a station to the next: what is sound stays so, the requests balance, and a refusal leaves the station
-record Moves (st next : Station) (ended begun : ℕ) (isRefused : Bool) : Type 0 where
-  reached : Reached st → Reached next
-  balance : waitingIn (next .ports) + ended ≡ waitingIn (st .ports) + begun
-  kept : isRefused ≡ true → next ≡ st
-
-module _ (st : Station) (placed : AllPlaced st) where
-  at-port : (device : ℕ) → Placed (portFor st device)
-  at-port device = placed (positionOf device) (position-within device)
-
-  idle : {isRefused : Bool} → Moves st st 0 0 isRefused
-  idle = record { reached = λ k. k; balance = refl; kept = λ e. refl }
-
-  -- a call at a port changes that port alone
-  moves-port : (position : ℕ) → position < portCount → {q : Port} {ended begun : ℕ} {isRefused : Bool} → Acts position (portAt st position) q ended begun isRefused → Moves st (withPort st position q) ended begun isRefused
+  reached-with : (position : ℕ) → position < portCount → (q : Port) → SoundPort position q → Reached (withPort st position q)
   unfolding withPort
-  moves-port position within {q} a =
-      record {
-        reached = λ k. record {
-          all = length-set (st .ports) position q ∙ k .all;
-          each = λ i h. go k i h (ℕ-discrete i position);
-        };
-        balance = omega (arith, exchange (st .ports) position q noPort (inside st position (placed position within)), a .count);
-        kept = λ r. ap (withPort st position) (a .kept r) ∙ same-port st position;
-      }
+  reached-with position within q s =
+      record { all = length-set (st .ports) position q ∙ k .all; each = λ i h. go i h (ℕ-discrete i position) }
     where
       next : Station
       next = withPort st position q
 
-      go : Reached st → (i : ℕ) → i < portCount → Dec (i ≡ position) → SoundPort i (portAt next i)
-      go k i h (yes e) =
-          subst (λ (j : ℕ). SoundPort j (portAt next j)) (sym e) (subst (SoundPort position) (sym (stored st position q within (k .all))) (a .sound (k .each position within)))
-      go k i h (no e) = subst (SoundPort i) (sym (elsewhere st position i q e)) (k .each i h)
+      go : (i : ℕ) → i < portCount → Dec (i ≡ position) → SoundPort i (portAt (withPort st position q) i)
+      go i h (yes e) =
+          subst (λ (j : ℕ). SoundPort j (portAt (withPort st position q) j)) (sym e) (subst (SoundPort position) (sym (stored st position q within (k .all))) s)
+      go i h (no e) = subst (SoundPort i) (sym (elsewhere st position i q e)) (k .each i h)
 
-  moves-tick : Moves st (tickAll st .station) (sumOf (tickAll st .ended)) 0 false
-  unfolding tickAll
-  moves-tick =
+  -- a call at a port: what holds there, and of every other port as it is
+  at-port : (P : ℕ → Port → Port → Type 0) (device n : ℕ) (q : Port) → isPort device ≡ true → isPort n ≡ true → P device (view device st) q → (eqb device n ≡ false → P n (view n st) (view n st)) → P n (view n st) (view n (withPort st (positionOf device) q))
+  at-port P device n q d h here there = go (eqb device n) refl
+    where
+      go : (b : Bool) → eqb device n ≡ b → P n (view n st) (view n (withPort st (positionOf device) q))
+      go true e =
+          subst (λ (i : ℕ). P i (view i st) (view i (withPort st (positionOf device) q))) (eqb-true device n e) (subst (P device (view device st)) (sym (stored st (positionOf device) q (position-within device) (k .all))) here)
+      go false e =
+          subst (P n (view n st)) (sym (elsewhere st (positionOf device) (positionOf n) q (λ z. eqb-false device n e (sym (one-number n device h d z))))) (there e)
+
+  -- a call that changes no port
+  idle : {c : Call} {a : CallAnswer} → ((n : ℕ) → begunOn n c a ≡ 0) → ((n : ℕ) → EndingAt n (endingOf c a) (view n st) (view n st)) → (read lent : List ℕ) → Steps st c (record { answer = a; read = read; lent = lent; station = st })
+  idle {c} {a} z e read lent =
       record {
-        reached = λ k. record {
-          all = length-map (st .ports) tickedPort ∙ k .all;
-          each = λ position h. subst (SoundPort position) (sym (ticked-at st position)) (tick-sound position (portAt st position) (k .each position h));
-        };
-        balance = tick-ports (st .ports) ∙ sym (add-zero _);
-        kept = λ r. absurd (false≢true r);
+        reached = k;
+        ends = λ n h. ends-only n c a (z n) (e n);
+        changes = λ n h. kept (keeps-all _ (view n st));
       }
 
-  case-moves : {c : Call} {o : Outcome} → StepCase st c o → Moves st (o .station) (endedIn (o .answer)) (begunIn c (o .answer)) (isRefusal (o .answer))
-  case-moves (unread e) = idle
-  case-moves (listEmpty e) = idle
-  case-moves (hidppAtPort {bytes} {r} e h) = moves-port _ (position-within (r .device)) (hidpp-acts _ _ (at-port (r .device)) h)
-  case-moves (djAtPort {bytes} {r} e h) = moves-port _ (position-within (r .device)) (dj-acts _ _ (receiver-kind (r .device) (r .byte2) (subst ReadFits e (read-fits bytes) .1)) h)
-  case-moves (request5 e) = idle
-  case-moves (requestAtPort {device} e h) = moves-port _ (position-within device) (request-acts _ _ (at-port device) h)
-  case-moves (cancel5 e) = idle
-  case-moves (cancelAtPort {device} e h) = moves-port _ (position-within device) (cancel-acts _ _ (at-port device) h)
-  case-moves tickAllPorts = moves-tick
-  case-moves writeOnly = idle
+  nothing-ends : (n : ℕ) → EndingAt n nothing (view n st) (view n st)
+  nothing-ends n = ends-elsewhere n (view n st) (view n st) nothing tt refl
 
-  moves : (c : Call) → Moves st (step st c .station) (endedIn (step st c .answer)) (begunIn c (step st c .answer)) (isRefusal (step st c .answer))
-  moves c = case-moves (step-case st placed c)
+  -- what is listed at the port that a call names
+  listed-at : {number device : ℕ} {listed : Field → Bool} {p q : Port} → number ≡ device → Keeps listed p q → (f : Field) → (eqb number device && listed f) ≡ false → Same f p q
+  listed-at {number} {device} e s f h = kept s f (simp (eq-eqb number device e) at h)
 
-  pub balanced : (c : Call) → Balanced st c
-  balanced c = moves c .balance
+  taken-at : (bytes : List ℕ) (device : ℕ) (x : Result) → isPort device ≡ true → byte bytes 1 ≡ device → SoundPort (positionOf device) (x .port) → EndingAt device (takeEnding (x .answer)) (view device st) (x .port) → ((n : ℕ) → eqb device n ≡ false → Elsewhere n (takeEnding (x .answer))) → Keeps (takeLists (view device st) (x .answer)) (view device st) (x .port) → Steps st (take bytes) (takeStep bytes (storedAt st (positionOf device) x))
+  taken-at bytes device x d e sound ends apart fields =
+      record {
+        reached = reached-with (positionOf device) (position-within device) (x .port) sound;
+        ends = λ n h. at-port (λ i p q. EndsAt i (take bytes) (taken (x .answer)) p q) device n (x .port) d h (ends-only device (take bytes) (taken (x .answer)) refl ends) (λ z. ends-only n (take bytes) (taken (x .answer)) refl (ends-elsewhere n (view n st) (view n st) (takeEnding (x .answer)) (apart n z) refl));
+        changes = λ n h. at-port (λ i p q. ChangesListed i (take bytes) (taken (x .answer)) p q) device n (x .port) d h (listed-at e fields) (λ z. kept (keeps-all _ (view n st)));
+      }
 
-  -- lent bytes: those lent to be read stay, and a refusal leaves the buffer
-  read-kept : (c : Call) → step st c .read ≡ readOf c
-  unfolding step
-  read-kept (take bytes) = refl
-  read-kept (request device byte2 byte3 ticks params offset lent) = refl
-  read-kept (cancel device byte2 byte3) = refl
-  read-kept tick = refl
-  read-kept (write writer offset lent) = refl
+  device-in : (start : ℕ) (bytes : List ℕ) {r : Report} → r ≡ reportFrom start bytes → byte bytes 1 ≡ r .device
+  unfolding reportFrom
+  device-in start bytes e = sym (ap (λ (x : Report). x .device) e)
 
-  request-lent : {device byte2 byte3 ticks : ℕ} {params : List ℕ} {offset : ℕ} {lent : List ℕ} {o : Outcome} → StepCase st (request device byte2 byte3 ticks params offset lent) o → isRefusal (o .answer) ≡ true → o .lent ≡ lent
-  request-lent (request5 e) r = refl
-  request-lent (requestAtPort e (requestRefused h)) r = refl
-  request-lent (requestAtPort e (accepted f n l)) r = absurd (false≢true r)
+  seven-ticked : length (tickAll st .station .ports) ≡ portCount
+  unfolding tickAll
+  seven-ticked = length-map (st .ports) tickedPort ∙ k .all
 
-  lent-kept : (c : Call) → isRefusal (step st c .answer) ≡ true → step st c .lent ≡ lentOf c
-  unfolding step
-  lent-kept (take bytes) r = refl
-  lent-kept (request device byte2 byte3 ticks params offset lent) r =
-      request-lent (step-case st placed (request device byte2 byte3 ticks params offset lent)) r
-  lent-kept (cancel device byte2 byte3) r = refl
-  lent-kept tick r = refl
-  lent-kept (write writer offset lent) r = writer-kept lent st writer offset r
+  on-tick : Steps st tick (tickStep (tickAll st))
+  on-tick =
+      record {
+        reached = record {
+          all = seven-ticked;
+          each = λ position h. subst (SoundPort position) (sym (ticked-at st position)) (tick-sound position (portAt st position) (k .each position h));
+        };
+        ends = λ n h. subst (EndsAt n tick (ticked (tickAll st .ended)) (view n st)) (sym (ticked-at st (positionOf n))) (tick-ends n (tickAll st .ended) (view n st) (counted-at st (positionOf n)));
+        changes = λ n h. subst (ChangesListed n tick (ticked (tickAll st .ended)) (view n st)) (sym (ticked-at st (positionOf n))) (kept (tick-keeps (view n st)));
+      }
 
-  pub refused-keeps : (c : Call) → isRefusal (step st c .answer) ≡ true → Unchanged st c (step st c)
-  refused-keeps c r = record { station = moves c .kept r; read = read-kept c; lent = lent-kept c r }
+  case-steps : {c : Call} {o : Outcome} → StepCase st c o → Steps st c o
+  unfolding messageOf
+  case-steps (unread {bytes} e) = idle (λ n. refl) nothing-ends bytes []
+  case-steps (listEmpty {bytes} e) = idle (λ n. refl) nothing-ends bytes []
+  case-steps (hidppAtPort {bytes} {r} {x} e h) =
+      let fits = subst (ReadFits bytes) e (read-fits bytes) in
+      let s = sound-at (r .device) in
+      taken-at bytes (r .device) x (fits .0) (device-in hidppStart bytes (fits .1 .1)) (hidpp-sound _ _ s h) (hidpp-ends _ (s .waiting) h) (λ n. hidpp-apart n h) (hidpp-keeps h)
+  case-steps (djAtPort {bytes} {r} {x} e h) =
+      let fits = subst (ReadFits bytes) e (read-fits bytes) in
+      let s = sound-at (r .device) in
+      taken-at bytes (r .device) x (dj-port (r .device) (r .byte2) (fits .1 .0)) (device-in djStart bytes (fits .1 .1)) (dj-sound _ _ s (receiver-kind (r .device) (r .byte2) (fits .1 .0)) h) (dj-ends _ (s .waiting) h) (λ n. dj-apart n h) (dj-keeps h)
+  case-steps (request5 {device} {params = params} {lent = lent} e) = idle (λ n. ap oneIf (and-false (eqb device n))) nothing-ends params lent
+  case-steps (requestAtPort {device} {byte2} {byte3} {ticks} {params} {offset} {lent} {x} e h) =
+      let c = request device byte2 byte3 ticks params offset lent in
+      let s = sound-at device in
+      record {
+        reached = reached-with (positionOf device) (position-within device) (x .port) (request-sound _ _ s h);
+        ends = λ n g. at-port (λ i p q. EndsAt i c (written (x .answer)) p q) device n (x .port) e g (filled-at device byte2 byte3 ticks params offset lent _ (s .waiting .all) h) (λ z. ends-only n c (written (x .answer)) (simp z) (nothing-ends n));
+        changes = λ n g. at-port (λ i p q. ChangesListed i c (written (x .answer)) p q) device n (x .port) e g (listed-at {number = device} refl (request-keeps h)) (λ z. kept (keeps-all _ (view n st)));
+      }
+  case-steps (cancel5 e) = idle (λ n. refl) nothing-ends [] []
+  case-steps (cancelAtPort {device} {byte2} {byte3} {x} e h) =
+      let c = cancel device byte2 byte3 in
+      let s = sound-at device in
+      record {
+        reached = reached-with (positionOf device) (position-within device) (x .port) (cancel-sound _ _ s h);
+        ends = λ n g. at-port (λ i p q. EndsAt i c (cancelled (x .answer)) p q) device n (x .port) e g (ends-only device c (cancelled (x .answer)) refl (cancel-ends _ (s .waiting) device h)) (λ z. ends-only n c (cancelled (x .answer)) refl (ends-elsewhere n (view n st) (view n st) _ (cancel-apart n device h z) refl));
+        changes = λ n g. at-port (λ i p q. ChangesListed i c (cancelled (x .answer)) p q) device n (x .port) e g (listed-at {number = device} refl (cancel-keeps h)) (λ z. kept (keeps-all _ (view n st)));
+      }
+  case-steps tickAllPorts = on-tick
+  case-steps (writeOnly {writer} {offset} {lent}) =
+      record {
+        reached = k;
+        ends = λ n h. ends-only n (write writer offset lent) (written _) refl (nothing-ends n);
+        changes = λ n h. kept (keeps-all _ (view n st));
+      }
 
-reached-fresh : Reached freshStation
+  steps : (c : Call) → Steps st c (step st c)
+  steps c = case-steps (step-case st (all-placed k) c)
+
+  pub next-reached : (c : Call) → Reached (step st c .station)
+  next-reached c = steps c .reached
+
+  -- what each call makes of each place of each port, and which fields it changes
+  pub call-ends : (c : Call) (n : ℕ) → isPort n ≡ true → EndsAt n c (step st c .answer) (view n st) (view n (step st c .station))
+  call-ends c = steps c .ends
+
+  pub call-changes : (c : Call) (n : ℕ) → isPort n ≡ true → ChangesListed n c (step st c .answer) (view n st) (view n (step st c .station))
+  call-changes c = steps c .changes
+
+-- a sequence of calls
+pub reached-start : {st : Station} → Start st → Reached st
 unfolding freshStation
-reached-fresh =
+reached-start fresh =
     record {
       all = refl;
       each = λ position h. subst (SoundPort position) (sym (getD-replicate portCount position freshPort noPort h)) (sound-fresh position);
     }
 
--- every station that calls reach
-pub all-placed : {st : Station} → Reached st → AllPlaced st
-all-placed k position h = k .each position h .waiting .all
-
-reached-run : (st : Station) (cs : List Call) → Reached st → Reached (run st cs)
+pub reached-run : (st : Station) (cs : List Call) → Reached st → Reached (run st cs)
 unfolding run
 reached-run st [] k = k
-reached-run st (c ∷ cs) k = reached-run (step st c .station) cs (moves st (all-placed k) c .reached k)
+reached-run st (c ∷ cs) k = reached-run (step st c .station) cs (next-reached st k c)
 
-run-balanced : (st : Station) (cs : List Call) → Reached st → waitingIn (run st cs .ports) + endedAll st cs ≡ waitingIn (st .ports) + begunAll st cs
-unfolding run endedAll begunAll
-run-balanced st [] k = refl
-run-balanced st (c ∷ cs) k =
-    let m = moves st (all-placed k) c in
-    omega (arith, run-balanced (step st c .station) cs (m .reached k), m .balance)
+run-balanced : (n : ℕ) → isPort n ≡ true → (st : Station) (cs : List Call) → Reached st → waitingOn (view n st) + begunIn n (transcript st cs) ≡ endedIn byReply n (transcript st cs) + (endedIn byError n (transcript st cs) + (endedIn byExpiry n (transcript st cs) + (endedIn byCancel n (transcript st cs) + (endedIn byDrop n (transcript st cs) + waitingOn (view n (run st cs))))))
+unfolding run transcript endedIn begunIn
+run-balanced n h st [] k = omega arith
+run-balanced n h st (c ∷ cs) k =
+    omega (arith, run-balanced n h (step st c .station) cs (next-reached st k c), call-ends st k c n h .balance)
 
-pub reached : (cs : List Call) → Reached (run freshStation cs)
-reached cs = reached-run freshStation cs reached-fresh
+-- nothing waits at a start
+start-waits : (n : ℕ) → isPort n ≡ true → {st : Station} → Start st → waitingOn (view n st) ≡ 0
+unfolding freshStation freshPort emptyPlace sumOver
+start-waits n h fresh = ap waitingOn (getD-replicate portCount (positionOf n) freshPort noPort (position-within n))
 
-fresh-waits : waitingIn (freshStation .ports) ≡ 0
-unfolding freshStation freshPort emptyPlace waitingIn sumOver
-fresh-waits = refl
-
--- what was asked has ended, or waits
-pub accounted : (cs : List Call) → waitingIn (run freshStation cs .ports) + endedAll freshStation cs ≡ begunAll freshStation cs
-accounted cs = omega (arith, run-balanced freshStation cs reached-fresh, fresh-waits)
+pub accounted : (n : ℕ) → isPort n ≡ true → (st : Station) → Start st → (cs : List Call) → Accounted n (transcript st cs) (view n (run st cs))
+accounted n h st begins cs =
+    omega (arith, run-balanced n h st cs (reached-start begins), start-waits n h begins)

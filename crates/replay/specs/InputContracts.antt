@@ -1,5 +1,6 @@
 -- Helpers of contracts: a line that fills the input buffer, made shorter.
-use Prim.Native.Nat.{ℕ, suc, _-_}
+use Prim.Native.Nat.{ℕ, suc, _+_, _-_}
+use mathlib.Core.Path.{_≡_}
 use mathlib.Core.Bool.{Bool, false, cond, _&&_}
 use mathlib.Core.List.{List, [], _∷_, _++_}
 use lib.ListN.{length, take, drop}
@@ -20,7 +21,7 @@ squeezed after (c ∷ text) =
 unfoldable pub squeezedLine : List ℕ → List ℕ
 squeezedLine line = squeezed false (take (length line - 1) line) ++ drop (length line - 1) line
 
--- with one space between its words no call is longer
+-- a round limit: with one space between its words no call is longer than `callMost` (crate replay_line, LineBoundsLaws), and CutLaws shows that it is enough
 abbrev pub longest : ℕ
 longest = 1024
 
@@ -38,3 +39,8 @@ heldText held buffer = cond (ltb held (length buffer)) (take held buffer) (short
 -- whether the rest of the line is passed over
 abbrev pub heldCut : ℕ → List ℕ → Bool
 heldCut held buffer = cond (ltb held (length buffer)) false (isCut buffer)
+
+-- the bytes of b between two offsets are at another one in b₁, behind those before it
+pub record Moves (to from end : ℕ) (b : List ℕ) (r : ℕ) (b₁ : List ℕ) : Type 0 where
+  pub next : r ≡ to + (end - from)
+  pub text : take r b₁ ≡ take to b ++ drop from (take end b)

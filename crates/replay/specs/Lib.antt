@@ -1,5 +1,11 @@
-pub mod RunLaws
 pub mod InputContracts
+pub mod ReplayHistories
+pub mod TurnContracts
 pub mod ShortLaws
 pub mod CutLaws
 pub mod SqueezeLaws
+pub mod MoveLaws
+pub mod HeldLaws
+pub mod FeedLaws
+pub mod TurnLaws
+pub mod ReplayHistoryLaws

@@ -1,13 +1,13 @@
 // The input buffer: what is left of it goes to its front, and a line that fills it is shortened.
-ghost use Prim.Native.Nat.{_+_, _-_, _≤_, _<_};
+ghost use Prim.Native.Nat.{_+_, _≤_, _<_};
 ghost use mathlib.Core.Path.{_≡_};
 ghost use mathlib.Core.Bool.{false, cond};
 ghost use lib.ListN.{length, take, drop, set};
-ghost use Rattle.replay.specs.InputContracts.{isSpare, squeezed, longest, heldText, heldCut};
+ghost use Rattle.replay.specs.InputContracts.{isSpare, squeezed, longest, heldText, heldCut, Moves};
 
 const SPACE: u8 = 32;
 
-// With one space between its words no call is longer.
+// A round limit, above the longest call with one space between its words (`callMost` of crate replay_line).
 pub const LONGEST: usize = 1024;
 
 // Moves the bytes between two offsets down to another one, and answers where they end.
@@ -15,7 +15,7 @@ pub(crate) fn move_down(buffer: &mut [u8], to: usize, from: usize, end: usize) -
     requires order { ⌜ to ≤ from ⌝ }
     requires part { ⌜ from ≤ end ⌝ }
     requires within { ⌜ end ≤ length (now buffer) ⌝ }
-    ensures end { λ r. ⌜ r ≡ to + (end - from) ⌝ }
+    ensures moves { λ r. ⌜ Moves to from end (now (buffer .entry)) r (now (buffer .exit)) ⌝ }
 {
     let mut next = to;
     let mut i = from;

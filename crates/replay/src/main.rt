@@ -1,129 +1,123 @@
-// replay [FILE]: makes each call of a script on one station that starts fresh, and writes the answers.
-ghost use Prim.Native.Nat.{_<_, _≤_};
+// replay [FILE [MARK]]: makes each call of a script on one station that starts fresh, and writes the answers. FILE is the script; it is on standard input where FILE is `-` or left out. A program cannot end with a status: where there is a second argument, a line on descriptor 3 says that the whole script was read, answered and written, and every failure leaves that line out.
+ghost use Prim.Native.Nat.{_+_, _≤_};
 ghost use mathlib.Core.Path.{_≡_};
+ghost use mathlib.Core.Bool.{true};
 ghost use lib.ListN.{length};
-ghost use Rattle.replay.specs.InputContracts.{longest};
-use answers::Run;
-use bytes::scan;
+ghost use Rattle.replay.specs.TurnContracts.{Standing, Large, Turned};
+use feed::State;
 use libc::STDIN_FILENO;
-use station::Station;
+use libc::STDOUT_FILENO;
 
-mod answers;
+mod feed;
 mod input;
 
 // The size of the input buffer and of the output buffer.
 const BUFFER: usize = 65536;
 
-// What is read and not yet answered is in the first `held` bytes of the buffer. Where it is cut, what follows up to the end of its line is passed over.
-struct State {
-    run: Run,
-    held: usize,
-    cut: bool,
+// Where the mark of a whole run goes.
+const MARK: i32 = 3;
+
+// What a turn leaves, whether another is to follow, and whether the whole script is read, answered and written.
+struct Outcome {
+    state: State,
     going: bool,
+    whole: bool,
 }
 
-// The end of the script, where a last line may lack its newline: it is in the first `held` bytes of the buffer.
-fn end(run: Run, buffer: &[u8], held: usize, output: &mut [u8]) -> Run
-    requires held { ⌜ held ≤ length (now buffer) ⌝ }
-    requires filled { ⌜ run .filled ≤ length (now output) ⌝ }
-    ensures { λ r. ⌜ r .filled ≡ 0 ⌝ }
+// Writes the front of the output buffer, and answers whether all of it was written.
+fn write(filled: usize, output: &[u8]) -> bool
+    requires { ⌜ filled ≤ length (now output) ⌝ }
 {
-    if held == 0 {
-        return answers::flush(run, output);
+    if io::write_all(STDOUT_FILENO, &output[..filled]) {
+        return true;
     }
-    let run = answers::answer(run, &buffer[..held], output);
-    answers::flush(run, output)
+    os::fail(b"standard output");
+    false
 }
 
-// Answers the lines that end within the buffer's first `size` bytes, and holds the rest.
-fn advance(run: Run, buffer: &mut [u8], size: usize, output: &mut [u8]) -> State
-    requires size { ⌜ size ≤ length (now buffer) ⌝ }
-    requires room { ⌜ longest < length (now buffer) ⌝ }
-    requires filled { ⌜ run .filled ≤ length (now output) ⌝ }
-    ensures held { λ r. ⌜ r .held < length (now (buffer .exit)) ⌝ }
-    ensures filled { λ r. ⌜ r .run .filled ≡ 0 ⌝ }
+// Takes in `count` bytes that lie behind those that are held, and writes the answers.
+fn advance(state: State, buffer: &mut [u8], count: usize, output: &mut [u8]) -> Outcome
+    requires standing { ⌜ Standing state (now buffer) (now output) ⌝ }
+    requires count { ⌜ state .size + count ≤ length (now buffer) ⌝ }
+    requires large { ⌜ Large (now buffer) (now output) ⌝ }
+    ensures { λ r. ⌜ Turned state (now (buffer .entry)) r (now (buffer .exit)) (now (output .exit)) ⌝ }
 {
-    let answered = answers::answer_lines(run, &buffer[..size], output);
-    let run = answered.run;
-    let left = input::move_down(buffer, 0, answered.used, size);
-    let held = input::hold(buffer, left);
-    let run = answers::flush(run, output);
-    State {
-        run,
-        held: held.size,
-        cut: held.cut,
-        going: run.written,
+    let next = feed::feed(state, buffer, count, output);
+    let going = write(next.filled, output);
+    Outcome {
+        state: next,
+        going,
+        whole: false,
     }
 }
 
-// Reads once, and answers what came.
-fn turn(state: State, fd: i32, name: &[u8], buffer: &mut [u8], output: &mut [u8]) -> State
-    requires held { ⌜ state .held < length (now buffer) ⌝ }
-    requires room { ⌜ longest < length (now buffer) ⌝ }
-    requires filled { ⌜ state .run .filled ≡ 0 ⌝ }
-    ensures held { λ r. ⌜ r .held < length (now (buffer .exit)) ⌝ }
-    ensures filled { λ r. ⌜ r .run .filled ≡ 0 ⌝ }
+// Reads once unless whole lines wait, answers what is there, and writes the answers. A read or a write that fails ends the run.
+fn turn(state: State, fd: i32, name: &[u8], buffer: &mut [u8], output: &mut [u8]) -> Outcome
+    requires standing { ⌜ Standing state (now buffer) (now output) ⌝ }
+    requires large { ⌜ Large (now buffer) (now output) ⌝ }
+    ensures { λ r. ⌜ Turned state (now (buffer .entry)) r (now (buffer .exit)) (now (output .exit)) ⌝ }
 {
-    let run = state.run;
-    let held = state.held;
-    let got = libc::read(fd, &mut buffer[held..]);
+    if !state.reading {
+        return advance(state, buffer, 0, output);
+    }
+    let size = state.size;
+    let got = libc::read(fd, &mut buffer[size..]);
     if got < 0 {
         os::fail(name);
-        return State {
-            run,
-            held,
-            cut: state.cut,
+        return Outcome {
+            state,
             going: false,
+            whole: false,
         };
     }
-    let count = io::count(got, &buffer[held..]);
+    let count = io::count(got, &buffer[size..]);
     if count == 0 {
-        let run = end(run, buffer, held, output);
-        return State {
-            run,
-            held,
-            cut: state.cut,
+        let last = feed::finish(state, buffer, output);
+        let whole = write(last.filled, output);
+        return Outcome {
+            state: last,
             going: false,
+            whole,
         };
     }
-    let size = held + count;
-    if state.cut {
-        let newline = scan::find(buffer, held, size, answers::NEWLINE);
-        if newline == size {
-            return state;
-        }
-        let size = input::move_down(buffer, held, newline, size);
-        return advance(run, buffer, size, output);
-    }
-    advance(run, buffer, size, output)
+    advance(state, buffer, count, output)
 }
 
-// A proved loop has to end, and nothing says that a script does: the turns are counted down from a number that no run uses up.
-fn replay(fd: i32, name: &[u8]) {
+// Answers whether the whole script was answered. A proved loop has to end, and nothing says that a script does: the turns are counted down from a number that no run uses up.
+fn replay(fd: i32, name: &[u8]) -> bool {
     let mut buffer = [0u8; BUFFER];
     let mut output = [0u8; BUFFER];
-    let run = Run {
-        station: Station::new(),
-        number: 0,
-        filled: 0,
-        written: true,
-    };
-    let mut state = State {
-        run,
-        held: 0,
-        cut: false,
+    let mut next = Outcome {
+        state: feed::start(),
         going: true,
+        whole: false,
     };
     let mut turns = u64::MAX;
-    while turns > 0 && state.going {
-        state = turn(state, fd, name, &mut buffer, &mut output);
+    while turns > 0 && next.going {
+        let state = next.state;
+        next = turn(state, fd, name, &mut buffer, &mut output);
         turns -= 1;
+    }
+    next.whole
+}
+
+// Closes standard output, where a write may still fail, and then sets the mark.
+fn finish(whole: bool) {
+    if !whole {
+        return;
+    }
+    if libc::close(STDOUT_FILENO) < 0 {
+        os::fail(b"standard output");
+        return;
+    }
+    if os::arg_count() > 2 {
+        io::write_all(MARK, b"answered\n");
     }
 }
 
 fn main() {
     if os::arg_count() < 2 {
-        replay(STDIN_FILENO, b"standard input");
+        finish(replay(STDIN_FILENO, b"standard input"));
         return;
     }
     let mut path = io::buffer();
@@ -132,11 +126,15 @@ fn main() {
         os::fail(&path[..length]);
         return;
     }
+    if length == 1 && path[0] == b'-' {
+        finish(replay(STDIN_FILENO, b"standard input"));
+        return;
+    }
     let fd = os::open_read(&path[..length]);
     if fd < 0 {
         os::fail(&path[..length]);
         return;
     }
-    replay(fd, &path[..length]);
+    finish(replay(fd, &path[..length]));
     libc::close(fd);
 }

@@ -1,5 +1,5 @@
 -- docs/SCRIPTS.md, "Lines" and "Answers": what a line gives.
-use Prim.Native.Nat.{ℕ}
+use Prim.Native.Nat.{ℕ, _+_, _*_}
 use mathlib.Core.Bool.{cond}
 use mathlib.Core.List.{List, []}
 use lib.ListN.{length, replicate}
@@ -13,7 +13,7 @@ use Rattle.replay_line.specs.LineFields.{mostLent}
 use Rattle.replay_line.specs.Commands as commands
 use Rattle.replay_line.specs.LineCalls.{lineRule}
 use Rattle.replay_taken.specs.TakenLines.{takenText}
-use Rattle.replay_render.specs.AnswerLines.{writtenText, writtenMost, cancelledText, endedText, readingText, movedText, noCallText}
+use Rattle.replay_render.specs.AnswerLines.{lentMost, writtenText, cancelledText, endedText, readingText, movedText, noCallText}
 use Rattle.replay_dump.specs.DumpLines.{dumpText}
 
 -- its text, and the next station
@@ -52,8 +52,11 @@ writerStep st (commands.frame port byte2 byte3) offset params lent =
     steps.writeStep st (writing.requestFrameRule port byte2 byte3 params offset lent)
 
 -- a lent buffer has LEN bytes, each EE before the call
+abbrev pub lentByte : ℕ
+lentByte = 0xEE
+
 abbrev pub lentBuffer : ℕ → List ℕ
-lentBuffer room = replicate room 0xEE
+lentBuffer room = replicate room lentByte
 
 -- an empty line or a comment gives no output; a line that is no call leaves the station as it is; the calls are those of the rules
 unfoldable pub commandRule : Station → (number : ℕ) → commands.Command → Answer
@@ -69,9 +72,13 @@ commandRule st number commands.dump = keeping st (dumpText st)
 commandRule st number (commands.write writer offset room params) =
     stepped (writerStep st writer offset params (lentBuffer room))
 
+-- a round limit for what a writer's line has besides its lent bytes
+abbrev pub restRoom : ℕ
+restRoom = 32
+
 -- room for any answer: that of a writer with the longest lent buffer
 abbrev pub answerRoom : ℕ
-answerRoom = writtenMost mostLent
+answerRoom = lentMost * mostLent + restRoom
 
 -- what answering a line leaves: the number of bytes of text that it put or the number of a refusal, the next station, and the buffer that the text is put into
 pub record LineOutcome : Type 0 where

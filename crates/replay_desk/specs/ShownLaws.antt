@@ -1,4 +1,4 @@
--- Laws of lines answered: each text has its room, and what the program shows of a call is the rules' step.
+-- Laws of lines answered: there is room for each text, and what the program shows of a call is the rules' step.
 use Prim.Native.Nat.{ℕ, zero, suc, _+_, _-_, _≤_}
 use mathlib.Core.Path.{_≡_, sym, _∙_, ap, subst, refl}
 use mathlib.Core.Bool.{true, false}
@@ -11,8 +11,8 @@ use borrow.Author.Tests.{leb-true}
 use Rattle.report.specs.Refusals.{noRoom}
 use Rattle.frame.specs.Writing as writing
 use Rattle.station.specs.declared.Station.{Station}
-use Rattle.text.specs.Putting.{Filled, filled, Puts}
-use Rattle.text.specs.PuttingLaws.{whole-put}
+use Rattle.text.specs.Putting.{Filled, filled, wholeRule}
+use Rattle.text.specs.PuttingLaws.{whole-with-room}
 use Rattle.replay_line.specs.Commands.{Command}
 use Rattle.replay_line.specs.LineFields.{mostLent}
 use Rattle.replay_line.specs.LineCalls.{lineRule}
@@ -24,17 +24,18 @@ use Rattle.replay_desk.specs.LineAnswers.{Answer, commandRule, answerRoo
 use Rattle.replay_desk.specs.DeskContracts.{Shows}
 
 -- a text whose room is within that of any answer is put whole
-pub shown : {an a : Answer} {most at : ℕ} {b : List ℕ} {next : ℕ} {b₁ : List ℕ} → writing.fitsAt answerRoom at (length b) ≡ true → most ≤ answerRoom → an ≡ a → Puts most (an .text) at b next b₁ → Shows a at b (record { next = next; station = an .station }) b₁
+pub shown : {an a : Answer} {most at : ℕ} {b : List ℕ} {next : ℕ} {b₁ : List ℕ} → writing.fitsAt answerRoom at (length b) ≡ true → most ≤ answerRoom → an ≡ a → filled next b₁ ≡ wholeRule most (an .text) at b → Shows a at b (record { next = next; station = an .station }) b₁
 shown {an} {a} {most} {at} {b} room h e p =
     let wide : at + answerRoom ≤ length b = leb-true _ _ room in
     record {
-      text = whole-put p (omega (arith, wide, h)) ∙ ap (λ (x : Answer). filled (at + length (x .text)) (writing.pasted (x .text) at b)) e;
+      text = p ∙ whole-with-room most (an .text) at b (omega (arith, wide, h)) ∙ ap (λ (x : Answer). filled (at + length (x .text)) (writing.pasted (x .text) at b)) e;
       station = ap (λ (x : Answer). x .station) e;
     }
 
 pub re-shown : {at : ℕ} {b : List ℕ} {r : Shown} {b₁ : List ℕ} {a a' : Answer} → a ≡ a' → Shows a at b r b₁ → Shows a' at b r b₁
 re-shown {at} {b} {r} {b₁} e s = subst (λ (a : Answer). Shows a at b r b₁) e s
 
+-- a writer's line takes no more, with any buffer that is lent
 pub written-room : {n : ℕ} → n ≤ mostLent → writtenMost n ≤ answerRoom
 written-room h = omega arith
 

@@ -19,8 +19,11 @@ use report::Refusal;
 use station::RequestResult;
 use station::Station;
 
-// Room for the longest answer: a writer's, with three bytes for each byte of the longest lent buffer, and 32 for the rest of it.
-pub const ANSWER: usize = 3 * replay_line::MOST_LENT + 32;
+// A round limit for what a writer's line has besides its lent bytes: the longest has 30 bytes more.
+const REST: usize = 32;
+
+// Room for the longest answer: a writer's, with a space and two digits for each byte of the longest lent buffer.
+pub const ANSWER: usize = (1 + text::DIGITS_8 as usize) * replay_line::MOST_LENT + REST;
 
 // Every byte of a lent buffer before the call.
 const LENT: u8 = 0xee;

@@ -2,16 +2,17 @@
 use Prim.Native.Nat.{ℕ, _+_, _*_}
 use mathlib.Core.List.{List, [], _∷_, _++_}
 use mathlib.Core.Bool.{cond}
+use lib.ListN.{length}
 use Rattle.report.specs.declared.FeatureIndex.{FeatureIndex}
 use Rattle.port.specs.Places.{isEmpty}
 use Rattle.port.specs.Records.{featureCount, placeCount}
 use Rattle.port.specs.declared.Port.{Port}
 use Rattle.port.specs.declared.Request.{Request}
 use Rattle.text.specs.Words.{ascii, hex, decimal}
-use Rattle.text.specs.Texts.{each, byteMost, linkText, linkMost, versionText, versionMost, batteryText, batteryMost}
+use Rattle.text.specs.Texts.{each, digits8, digits16, digits32, byteMost, linkText, linkMost, versionText, versionMost, batteryText, batteryMost}
 use Rattle.station.specs.Stations.{portCount, numberAt}
 use Rattle.station.specs.declared.Station.{Station}
-use Rattle.replay_fields.specs.AnswerFields.{field, line, byteText, flag, parted}
+use Rattle.replay_fields.specs.AnswerFields.{field, fieldMost, line, lineEnd, byteText, flag, flagMost, commaMost, parted}
 
 -- features are decimal
 abbrev pub featureText : FeatureIndex → List ℕ
@@ -19,7 +20,7 @@ featureText feature = decimal (feature .0)
 
 -- with the comma before it
 abbrev pub featureMost : ℕ
-featureMost = 1 + byteMost
+featureMost = commaMost + byteMost
 
 -- byte 2, byte 3, the first three parameters, and then the ticks left
 unfoldable pub requestText : Request → List ℕ
@@ -37,14 +38,14 @@ requestText r =
     ++ decimal (r .ticks))))))))))
 
 abbrev pub requestMost : ℕ
-requestMost = 2 + 4 * (1 + 2) + (1 + byteMost)
+requestMost = digits8 + 4 * (length (ascii ":") + digits8) + (length (ascii ":") + byteMost)
 
 unfoldable pub placeText : Request → List ℕ
 placeText r = cond (isEmpty r) (ascii "-") (requestText r)
 
 -- with the comma before it
 abbrev pub placeMost : ℕ
-placeMost = 1 + requestMost
+placeMost = commaMost + requestMost
 
 unfoldable pub featuresText : List FeatureIndex → List ℕ
 featuresText features = each (parted featureText) features
@@ -52,14 +53,18 @@ featuresText features = each (parted featureText) features
 unfoldable pub placesText : List Request → List ℕ
 placesText places = each (parted placeText) places
 
+-- a line begins with it
+abbrev pub portName : List ℕ
+portName = ascii "port="
+
 unfoldable pub portLine : (number : ℕ) → Port → List ℕ
 portLine number p =
     line
-    (ascii "port="
+    (portName
     ∷ decimal number
     ∷ field "paired" (flag (p .paired))
-    ∷ field "wpid" (hex 4 (p .wpid))
-    ∷ field "reports" (hex 8 (p .reports))
+    ∷ field "wpid" (hex digits16 (p .wpid))
+    ∷ field "reports" (hex digits32 (p .reports))
     ∷ field "link" (linkText (p .up))
     ∷ field "version" (versionText (p .version))
     ∷ field "features" (featuresText (p .features))
@@ -70,16 +75,17 @@ portLine number p =
 -- each name with its value at its longest, and a newline
 abbrev pub portMost : ℕ
 portMost =
-    (5 + byteMost)
-    + (8 + 1)
-    + (6 + 4)
-    + (9 + 8)
-    + (6 + linkMost)
-    + (9 + versionMost)
-    + (10 + featureMost * featureCount)
-    + (9 + batteryMost)
-    + (8 + placeMost * placeCount)
-    + 1
+    length portName
+    + byteMost
+    + fieldMost "paired" flagMost
+    + fieldMost "wpid" digits16
+    + fieldMost "reports" digits32
+    + fieldMost "link" linkMost
+    + fieldMost "version" versionMost
+    + fieldMost "features" (featureMost * featureCount)
+    + fieldMost "battery" batteryMost
+    + fieldMost "places" (placeMost * placeCount)
+    + lineEnd
 
 -- a line for each port, under its number: 1 to 6, and then 255
 unfoldable pub portsText : List Port → List ℕ

@@ -1,7 +1,8 @@
-// The lines of a dump, what every port holds, put into a lent buffer.
+// The lines of a dump, what every port holds, put whole into a lent buffer, or not at all.
+ghost use mathlib.Core.Path.{_≡_};
 ghost use Prim.Native.Nat.{_*_};
 ghost use Rattle.port.specs.Records.{featureCount, placeCount};
-ghost use Rattle.text.specs.Putting.{Puts};
+ghost use Rattle.text.specs.Putting.{filled, Puts, wholeRule};
 ghost use Rattle.replay_fields.specs.AnswerFields.{parted};
 ghost use Rattle.replay_dump.specs.DumpLines.{featureText, featureMost, featuresText, requestText, requestMost, placeText, placeMost, placesText, portLine, portMost, portsText, dumpText, dumpMost};
 use port::Port;
@@ -9,6 +10,29 @@ use port::Request;
 use report::Device;
 use report::FeatureIndex;
 use station::Station;
+
+// The longest text of a feature and of a place, each with the comma before it.
+const FEATURE: usize = 1 + text::BYTE_MOST;
+
+const PLACE: usize = 1
+    + text::DIGITS_8 as usize
+    + 4 * (1 + text::DIGITS_8 as usize)
+    + (1 + text::BYTE_MOST);
+
+// The longest line of a port: `port=`, ` paired=`, ` wpid=`, ` reports=`, ` link=`, ` version=`, ` features=`, ` battery=` and ` places=`, each with its value at its longest, and the newline.
+const PORT: usize = (5 + text::BYTE_MOST)
+    + (8 + 1)
+    + (6 + text::DIGITS_16 as usize)
+    + (9 + text::DIGITS_32 as usize)
+    + (6 + text::LINK_MOST)
+    + (9 + text::VERSION_MOST)
+    + (10 + FEATURE * port::FEATURES)
+    + (9 + text::BATTERY_MOST)
+    + (8 + PLACE * port::PLACES)
+    + 1;
+
+// Room for every dump.
+const DUMP: usize = PORT * port::PORTS;
 
 fn put_feature(buffer: &mut [u8], at: usize, i: usize, feature: FeatureIndex) -> usize
     ensures { λ r. ⌜ Puts featureMost (parted featureText i feature) at (now (buffer .entry)) r (now (buffer .exit)) ⌝ }
@@ -76,8 +100,14 @@ fn put_port(buffer: &mut [u8], at: usize, port: Port, number: Device) -> usize
     let places = port.places;
     let at = replay_fields::put_number(buffer, at, b"port=", number.0);
     let at = replay_fields::put_flag(buffer, at, b" paired=", port.paired);
-    let at = replay_fields::put_wide(buffer, at, b" wpid=", 4, port.wpid as usize);
-    let at = replay_fields::put_wide(buffer, at, b" reports=", 8, port.reports as usize);
+    let at = replay_fields::put_wide(buffer, at, b" wpid=", text::DIGITS_16, port.wpid as usize);
+    let at = replay_fields::put_wide(
+        buffer,
+        at,
+        b" reports=",
+        text::DIGITS_32,
+        port.reports as usize,
+    );
     let at = replay_fields::put_link(buffer, at, b" link=", port.up);
     let at = text::put_word(buffer, at, b" version=");
     let at = text::put_version(buffer, at, version);
@@ -103,10 +133,13 @@ fn put_ports(buffer: &mut [u8], at: usize, ports: [Port; port::PORTS]) -> usize
     next
 }
 
-// What every port of a station holds.
+// What every port of a station holds. The offset after the lines, or the same offset where there is less room than the longest dump takes.
 pub fn put_dump(buffer: &mut [u8], at: usize, station: Station) -> usize
-    ensures put { λ r. ⌜ Puts dumpMost (dumpText station) at (now (buffer .entry)) r (now (buffer .exit)) ⌝ }
+    ensures put { λ r. ⌜ filled r (now (buffer .exit)) ≡ wholeRule dumpMost (dumpText station) at (now (buffer .entry)) ⌝ }
 {
     let ports = station.ports;
-    put_ports(buffer, at, ports)
+    if frame::fits(DUMP, at, buffer.len()) {
+        return put_ports(buffer, at, ports);
+    }
+    at
 }

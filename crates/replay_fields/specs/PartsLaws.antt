@@ -13,13 +13,13 @@ use Rattle.text.specs.Words.{ascii, decimal}
 use Rattle.text.specs.Putting.{Puts}
 use Rattle.text.specs.PuttingLaws.{nothing-put, at-most, same-text, then-put}
 use Rattle.text.specs.PutDigitsLaws.{in-digits}
-use Rattle.replay_fields.specs.AnswerFields.{comma, signedText, signedMost, answerMost}
+use Rattle.replay_fields.specs.AnswerFields.{comma, commaMost, farthest, signedText, signedMost, answerMost}
 
-pub no-comma : (i at : ℕ) (b : List ℕ) → i ≡ 0 → Puts 1 (comma i) at b at b
+pub no-comma : (i at : ℕ) (b : List ℕ) → i ≡ 0 → Puts commaMost (comma i) at b at b
 unfolding comma
-no-comma i at b e = same-text (ap comma (sym e)) (at-most 1 (lit≤ tt) (nothing-put at b))
+no-comma i at b e = same-text (ap comma (sym e)) (at-most commaMost (lit≤ tt) (nothing-put at b))
 
-pub a-comma : {next : ℕ} {b₁ : List ℕ} (i at : ℕ) (b : List ℕ) → (i ≡ 0 → ⊥) → Puts 1 (ascii ",") at b next b₁ → Puts 1 (comma i) at b next b₁
+pub a-comma : {next : ℕ} {b₁ : List ℕ} (i at : ℕ) (b : List ℕ) → (i ≡ 0 → ⊥) → Puts 1 (ascii ",") at b next b₁ → Puts commaMost (comma i) at b next b₁
 unfolding comma
 a-comma zero at b some p = absurd (some refl)
 a-comma (suc i) at b some p = p
@@ -34,7 +34,7 @@ unfolding signedText
 positive (pos n) h = refl
 positive (negsuc n) h = absurd (subst T h tt)
 
-module _ {k at : ℕ} {b : List ℕ} {n : ℕ} {b₁ : List ℕ} (z : ℤ) (size : ℕ) (far : size ≡ natAbs z) (small : size ≤ 32768) where
+module _ {k at : ℕ} {b : List ℕ} {n : ℕ} {b₁ : List ℕ} (z : ℤ) (size : ℕ) (far : size ≡ natAbs z) (small : size ≤ farthest) where
   pub a-negative : {n₂ : ℕ} {b₂ : List ℕ} → ltZ z (pos 0) ≡ true → Puts 1 (ascii "-") at b n b₁ → Puts k (decimal size) n b₁ n₂ b₂ → Puts signedMost (signedText z) at b n₂ b₂
   a-negative h sign digits =
       same-text (ap (λ (k : ℕ). ascii "-" ++ decimal k) far ∙ negative z h) (then-put sign (in-digits 4 size (omega arith) digits))

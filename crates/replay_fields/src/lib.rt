@@ -6,10 +6,24 @@ ghost use lib.IntN.{natAbs};
 ghost use lib.ListN.{length};
 ghost use Rattle.text.specs.Words.{hex, decimal};
 ghost use Rattle.text.specs.Putting.{Puts};
-ghost use Rattle.text.specs.Texts.{numberMost, byteMost, linkText, linkMost};
-ghost use Rattle.replay_fields.specs.AnswerFields.{byteText, flag, signedText, signedMost, comma, refusedText};
+ghost use Rattle.text.specs.Texts.{digits8, numberMost, byteMost, linkText, linkMost};
+ghost use Rattle.replay_fields.specs.AnswerFields.{byteText, flag, flagMost, farthest, signedText, signedMost, comma, commaMost, refusedText, refusedMost};
 ghost use Rattle.report.specs.ReportContracts.{numberOf};
 use report::Refusal;
+
+// The digits of a byte in hexadecimal.
+const CODE: usize = text::DIGITS_8 as usize;
+
+// Room for the longest line of an answer, except a writer's and a dump's, an error's: its word, ` port=`, ` byte2=`, ` byte3=`, ` start=`, ` length=`, ` code=` and ` kind=`, each with its value at its longest, and the newline.
+pub const ANSWER: usize = 5
+    + (6 + text::BYTE_MOST)
+    + (7 + CODE)
+    + (7 + CODE)
+    + (7 + text::BYTE_MOST)
+    + (8 + text::BYTE_MOST)
+    + (6 + CODE)
+    + (6 + CODE)
+    + 1;
 
 // A byte in decimal.
 pub fn put_number(buffer: &mut [u8], at: usize, word: &[u8], n: u8) -> usize
@@ -37,13 +51,13 @@ pub fn put_wide(buffer: &mut [u8], at: usize, word: &[u8], width: u8, n: usize) 
 
 // A byte: two hexadecimal digits.
 pub fn put_code(buffer: &mut [u8], at: usize, word: &[u8], n: u8) -> usize
-    ensures put { λ r. ⌜ Puts (length (now (word .entry)) + 2) (now (word .entry) ++ byteText n) at (now (buffer .entry)) r (now (buffer .exit)) ⌝ }
+    ensures put { λ r. ⌜ Puts (length (now (word .entry)) + digits8) (now (word .entry) ++ byteText n) at (now (buffer .entry)) r (now (buffer .exit)) ⌝ }
 {
-    put_wide(buffer, at, word, 2, n as usize)
+    put_wide(buffer, at, word, text::DIGITS_8, n as usize)
 }
 
 pub fn put_flag(buffer: &mut [u8], at: usize, word: &[u8], on: bool) -> usize
-    ensures put { λ r. ⌜ Puts (length (now (word .entry)) + 1) (now (word .entry) ++ flag on) at (now (buffer .entry)) r (now (buffer .exit)) ⌝ }
+    ensures put { λ r. ⌜ Puts (length (now (word .entry)) + flagMost) (now (word .entry) ++ flag on) at (now (buffer .entry)) r (now (buffer .exit)) ⌝ }
 {
     let at = text::put_word(buffer, at, word);
     if on {
@@ -62,7 +76,7 @@ pub fn put_link(buffer: &mut [u8], at: usize, word: &[u8], up: bool) -> usize
 // How far a number lies from 0. Below 0 it is the distance from -1, which the same width holds, and one more.
 fn magnitude(n: i16) -> usize
     ensures far { λ r. ⌜ r ≡ natAbs n ⌝ }
-    ensures small { λ r. ⌜ r ≤ 32768 ⌝ }
+    ensures small { λ r. ⌜ r ≤ farthest ⌝ }
 {
     if n < 0 {
         return (-1 - n) as usize + 1;
@@ -85,7 +99,7 @@ pub fn put_signed(buffer: &mut [u8], at: usize, word: &[u8], n: i16) -> usize
 
 // A comma before every element except the first.
 pub fn put_comma(buffer: &mut [u8], at: usize, i: usize) -> usize
-    ensures put { λ r. ⌜ Puts 1 (comma i) at (now (buffer .entry)) r (now (buffer .exit)) ⌝ }
+    ensures put { λ r. ⌜ Puts commaMost (comma i) at (now (buffer .entry)) r (now (buffer .exit)) ⌝ }
 {
     if i == 0 {
         return at;
@@ -95,7 +109,7 @@ pub fn put_comma(buffer: &mut [u8], at: usize, i: usize) -> usize
 
 // The line of a refusal, except a writer's.
 pub fn put_refused(buffer: &mut [u8], at: usize, refusal: Refusal) -> usize
-    ensures put { λ r. ⌜ Puts (8 + byteMost + 1) (refusedText (numberOf refusal)) at (now (buffer .entry)) r (now (buffer .exit)) ⌝ }
+    ensures put { λ r. ⌜ Puts refusedMost (refusedText (numberOf refusal)) at (now (buffer .entry)) r (now (buffer .exit)) ⌝ }
 {
     let at = put_number(buffer, at, b"refused ", refusal.number());
     text::put_byte(buffer, at, b'\n')

@@ -10,12 +10,13 @@ use lib.ListN.{length}
 use borrow.Author.Tests.{eqb-true, eqb-false, leb-true, ne-eqb, lt-ltb}
 use Rattle.report.specs.ChoicesLaws.{both}
 use Rattle.report.specs.Sizes.{byte}
+use Rattle.text.specs.Words.{ascii}
 use Rattle.replay_line.specs.LineWords.{words, sameWord}
 use Rattle.replay_line.specs.LineValues.{hexByte, allDigits, valueAfter, leadingZero, greatest, digitsAfter, number}
 use Rattle.replay_line.specs.LineValuesLaws.{grows}
 use Rattle.replay_line.specs.LineFields.{Read, nothing, got, valued, first, andThen, upTo, greatestPort, mostLent, roomNumber, portNumber, target, Lent, lent, before, bytesOf, mostBytes, limited}
 use Rattle.replay_line.specs.Commands.{Writer, Command, blank, noCall, take, tick, read, mouse, dump}
-use Rattle.replay_line.specs.LineCalls.{alone, given, withBytes, lentAlone, lentBytes, requestCall, cancelCall, switchCall, ledCall, frameCall, Row, otherRows, writerRows, table, called, callOf, withoutReturn, textRule, lineRule}
+use Rattle.replay_line.specs.LineCalls.{alone, given, withBytes, lentAlone, lentBytes, requestCall, cancelCall, switchCall, ledCall, frameCall, Row, otherRows, writerRows, table, called, callOf, withoutReturn, hash, textRule, lineRule}
 use Rattle.replay_line.specs.LineContracts.{roomOf}
 
 -- words with one space after each
@@ -31,14 +32,21 @@ abbrev Fits : (ℕ → Type 0) → ℕ → List ℕ → Option ℕ → Type 0
 Fits P most word none = Unit {0}
 Fits P most word (some value) = (length word ≤ most) × P value
 
-byte-by : (word : List ℕ) (t : Bool) (o : Option ℕ) → eqb (length word) 2 ≡ t → Fits Any 2 word (cond t o none)
+-- the characters of a byte, and the most of a number
+abbrev byteLength : ℕ
+byteLength = 2
+
+abbrev numberLength : ℕ
+numberLength = 5
+
+byte-by : (word : List ℕ) (t : Bool) (o : Option ℕ) → eqb (length word) byteLength ≡ t → Fits Any byteLength word (cond t o none)
 byte-by word true none e = tt
-byte-by word true (some value) e = (omega (arith, eqb-true (length word) 2 e), tt)
+byte-by word true (some value) e = (omega (arith, eqb-true (length word) byteLength e), tt)
 byte-by word false o e = tt
 
-byte-fits : (word : List ℕ) → Fits Any 2 word (hexByte word)
+byte-fits : (word : List ℕ) → Fits Any byteLength word (hexByte word)
 unfolding hexByte
-byte-fits word = byte-by word (eqb (length word) 2) _ refl
+byte-fits word = byte-by word (eqb (length word) byteLength) _ refl
 
 -- six digits without a zero in front come to more than the greatest number
 module _ (a b c d e f : ℕ) (text : List ℕ) where
@@ -57,24 +65,24 @@ module _ (a b c d e f : ℕ) (text : List ℕ) where
       let other = eqb-false a 48 (simp (lt-ltb 1 (length six) (omega arith)) at z) in
       omega (arith, leb-true 48 a (range .0), other)
 
-  six-by : (t : Bool) → (leadingZero six ≡ t) → (s : Bool) → (allDigits six && leb (valueAfter 0 six) greatest ≡ s) → Fits Any 5 six (cond t none (cond s (some (valueAfter 0 six)) none))
+  six-by : (t : Bool) → (leadingZero six ≡ t) → (s : Bool) → (allDigits six && leb (valueAfter 0 six) greatest ≡ s) → Fits Any numberLength six (cond t none (cond s (some (valueAfter 0 six)) none))
   six-by true z s h = tt
   six-by false z false h = tt
   six-by false z true h =
       let tests = both _ _ h in
       absurd (too-great (first-digit (tests .0) z) (leb-true _ _ (tests .1)))
 
-  six-fit : Fits Any 5 six (number six)
+  six-fit : Fits Any numberLength six (number six)
   unfolding number digitsAfter
   six-fit =
       simp (ne-eqb (length six) 0 (λ e. omega arith))
       (six-by (leadingZero six) refl (allDigits six && leb (valueAfter 0 six) greatest) refl)
 
-few : (word : List ℕ) (o : Option ℕ) → length word ≤ 5 → Fits Any 5 word o
+few : (word : List ℕ) (o : Option ℕ) → length word ≤ numberLength → Fits Any numberLength word o
 few word none h = tt
 few word (some value) h = (h, tt)
 
-number-fits : (word : List ℕ) → Fits Any 5 word (number word)
+number-fits : (word : List ℕ) → Fits Any numberLength word (number word)
 number-fits [] = few [] (number []) (lit≤ tt)
 number-fits (a ∷ []) = few (a ∷ []) (number (a ∷ [])) (lit≤ tt)
 number-fits (a ∷ b ∷ []) = few (a ∷ b ∷ []) (number (a ∷ b ∷ [])) (lit≤ tt)
@@ -84,11 +92,11 @@ number-fits (a ∷ b ∷ c ∷ d ∷ e ∷ []) = few (a ∷ b ∷ c ∷ d ∷ e 
 number-fits (a ∷ b ∷ c ∷ d ∷ e ∷ f ∷ text) = six-fit a b c d e f text
 
 -- and up to a limit
-up-to-by : (limit : ℕ) (word : List ℕ) (n : ℕ) (t : Bool) → leb n limit ≡ t → length word ≤ 5 → Fits (λ (m : ℕ). m ≤ limit) 5 word (cond t (some n) none)
+up-to-by : (limit : ℕ) (word : List ℕ) (n : ℕ) (t : Bool) → leb n limit ≡ t → length word ≤ numberLength → Fits (λ (m : ℕ). m ≤ limit) numberLength word (cond t (some n) none)
 up-to-by limit word n true e h = (h, leb-true n limit e)
 up-to-by limit word n false e h = tt
 
-up-to-fits : (limit : ℕ) (word : List ℕ) (o : Option ℕ) → Fits Any 5 word o → Fits (λ (m : ℕ). m ≤ limit) 5 word (upTo limit o)
+up-to-fits : (limit : ℕ) (word : List ℕ) (o : Option ℕ) → Fits Any numberLength word o → Fits (λ (m : ℕ). m ≤ limit) numberLength word (upTo limit o)
 up-to-fits limit word none h = tt
 up-to-fits limit word (some n) h = up-to-by limit word n (leb n limit) refl (h .0)
 
@@ -106,15 +114,22 @@ first-takes : (P : ℕ → Type 0) (most : ℕ) (value : List ℕ → Option ℕ
 first-takes P most value h [] = tt
 first-takes P most value h (word ∷ following) = valued-takes P most word following (value word) (h word)
 
-byte-takes : (words : List (List ℕ)) → Takes Any 3 words (first hexByte words)
-byte-takes words = first-takes Any 2 hexByte byte-fits words
+-- each with the space after it
+abbrev byteMost : ℕ
+byteMost = suc byteLength
 
-number-takes : (words : List (List ℕ)) → Takes Any 6 words (first number words)
-number-takes words = first-takes Any 5 number number-fits words
+abbrev numberMost : ℕ
+numberMost = suc numberLength
 
-up-to-takes : (limit : ℕ) (words : List (List ℕ)) → Takes (λ (m : ℕ). m ≤ limit) 6 words (first (λ (word : List ℕ). upTo limit (number word)) words)
+byte-takes : (words : List (List ℕ)) → Takes Any byteMost words (first hexByte words)
+byte-takes words = first-takes Any byteLength hexByte byte-fits words
+
+number-takes : (words : List (List ℕ)) → Takes Any numberMost words (first number words)
+number-takes words = first-takes Any numberLength number number-fits words
+
+up-to-takes : (limit : ℕ) (words : List (List ℕ)) → Takes (λ (m : ℕ). m ≤ limit) numberMost words (first (λ (word : List ℕ). upTo limit (number word)) words)
 up-to-takes limit words =
-    first-takes (λ (m : ℕ). m ≤ limit) 5 (λ (word : List ℕ). upTo limit (number word)) (λ word. up-to-fits limit word (number word) (number-fits word)) words
+    first-takes (λ (m : ℕ). m ≤ limit) numberLength (λ (word : List ℕ). upTo limit (number word)) (λ word. up-to-fits limit word (number word) (number-fits word)) words
 
 module _ {A B : Type 0} (P : A → Type 0) (Q : B → Type 0) where
   then-takes : (m n : ℕ) (words : List (List ℕ)) (r : Read A) (next : A → List (List ℕ) → Read B) → Takes P m words r → ((value : A) → P value → (following : List (List ℕ)) → Takes Q n following (next value following)) → Takes Q (m + n) words (andThen r nothing next)
@@ -125,22 +140,29 @@ module _ {A B : Type 0} (P : A → Type 0) (Q : B → Type 0) where
       by nothing h = tt
       by (got x left) h = (omega (arith, p .0, h .0), h .1)
 
-target-takes : (words : List (List ℕ)) → Takes Any 12 words (target words)
+-- PORT B2 B3
+abbrev targetMost : ℕ
+targetMost = numberMost + (byteMost + byteMost)
+
+target-takes : (words : List (List ℕ)) → Takes Any targetMost words (target words)
 unfolding target
 target-takes words =
-    then-takes (λ (m : ℕ). m ≤ greatestPort) Any 6 6 words (first portNumber words) _ (up-to-takes greatestPort words) λ port h words.
-    then-takes Any Any 3 3 words (first hexByte words) _ (byte-takes words) λ byte2 h words.
-    then-takes Any Any 3 0 words (first hexByte words) _ (byte-takes words) λ byte3 h words. (omega arith, tt)
+    then-takes (λ (m : ℕ). m ≤ greatestPort) Any numberMost (byteMost + byteMost) words (first portNumber words) _ (up-to-takes greatestPort words) λ port h words.
+    then-takes Any Any byteMost byteMost words (first hexByte words) _ (byte-takes words) λ byte2 h words.
+    then-takes Any Any byteMost 0 words (first hexByte words) _ (byte-takes words) λ byte3 h words. (omega arith, tt)
 
 -- PLACE LEN: no longer than the longest lent buffer
 abbrev Within : Lent → Type 0
 Within l = l .room ≤ mostLent
 
-lent-takes : (words : List (List ℕ)) → Takes Within 12 words (lent words)
+abbrev lentMost : ℕ
+lentMost = numberMost + numberMost
+
+lent-takes : (words : List (List ℕ)) → Takes Within lentMost words (lent words)
 unfolding lent
 lent-takes words =
-    then-takes Any Within 6 6 words (first number words) _ (number-takes words) λ offset h words.
-    then-takes (λ (m : ℕ). m ≤ mostLent) Within 6 0 words (first roomNumber words) _ (up-to-takes mostLent words) λ room h words. (omega arith, h)
+    then-takes Any Within numberMost numberMost words (first number words) _ (number-takes words) λ offset h words.
+    then-takes (λ (m : ℕ). m ≤ mostLent) Within numberMost 0 words (first roomNumber words) _ (up-to-takes mostLent words) λ room h words. (omega arith, h)
 
 -- a command of these words is no call; or they are few, and it is lent no more than the longest buffer
 data Bounded (most : ℕ) (words : List (List ℕ)) (command : Command) : Type 0 where
@@ -168,9 +190,9 @@ alone-bounded command (word ∷ words) r = none-called refl
 -- every word that is left is a byte
 abbrev Bytes : List (List ℕ) → Option (List ℕ) → Type 0
 Bytes words none = Unit {0}
-Bytes words (some bytes) = sizeOf words ≤ 3 * length bytes
+Bytes words (some bytes) = sizeOf words ≤ byteMost * length bytes
 
-before-bytes : (word : List ℕ) (following : List (List ℕ)) (o : Option ℕ) (os : Option (List ℕ)) → Fits Any 2 word o → Bytes following os → Bytes (word ∷ following) (before o os)
+before-bytes : (word : List ℕ) (following : List (List ℕ)) (o : Option ℕ) (os : Option (List ℕ)) → Fits Any byteLength word o → Bytes following os → Bytes (word ∷ following) (before o os)
 unfolding sizeOf
 before-bytes word following none os h b = tt
 before-bytes word following (some value) none h b = tt
@@ -181,12 +203,11 @@ unfolding bytesOf sizeOf
 all-bytes [] = omega arith
 all-bytes (word ∷ following) = before-bytes word following (hexByte word) (bytesOf following) (byte-fits word) (all-bytes following)
 
--- each with a space
 abbrev bytesMost : ℕ
-bytesMost = 3 * mostBytes
+bytesMost = byteMost * mostBytes
 
 module _ (command : List ℕ → Command) (lends : (bytes : List ℕ) → roomOf (command bytes) ≤ mostLent) (words : List (List ℕ)) where
-  limited-by : (bytes : List ℕ) (t : Bool) → leb (length bytes) mostBytes ≡ t → sizeOf words ≤ 3 * length bytes → Bounded bytesMost words (given (cond t (some bytes) none) command)
+  limited-by : (bytes : List ℕ) (t : Bool) → leb (length bytes) mostBytes ≡ t → sizeOf words ≤ byteMost * length bytes → Bounded bytesMost words (given (cond t (some bytes) none) command)
   limited-by bytes true e h = a-call (omega (arith, h, leb-true (length bytes) mostBytes e)) (lends bytes)
   limited-by bytes false e h = none-called refl
 
@@ -198,49 +219,52 @@ module _ (command : List ℕ → Command) (lends : (bytes : List ℕ) → roomOf
   unfolding withBytes
   bytes-bounded = given-bounded (bytesOf words) (all-bytes words)
 
-lent-alone : (writer : Writer) (words : List (List ℕ)) → Bounded 12 words (lentAlone writer words)
+lent-alone : (writer : Writer) (words : List (List ℕ)) → Bounded lentMost words (lentAlone writer words)
 lent-alone writer words =
-    then-bounded Within 12 0 words (lent words) _ (lent-takes words) λ at h words. alone-bounded _ words h
+    then-bounded Within lentMost 0 words (lent words) _ (lent-takes words) λ at h words. alone-bounded _ words h
 
-lent-bytes : (writer : Writer) (words : List (List ℕ)) → Bounded (12 + bytesMost) words (lentBytes writer words)
+lent-bytes : (writer : Writer) (words : List (List ℕ)) → Bounded (lentMost + bytesMost) words (lentBytes writer words)
 lent-bytes writer words =
-    then-bounded Within 12 bytesMost words (lent words) _ (lent-takes words) λ at h words. bytes-bounded _ (λ bytes. h) words
+    then-bounded Within lentMost bytesMost words (lent words) _ (lent-takes words) λ at h words. bytes-bounded _ (λ bytes. h) words
 
 -- the longest call is a request with all parameters: three values of its target, its ticks, and its lent buffer
 abbrev valuesMost : ℕ
-valuesMost = 12 + (6 + (12 + bytesMost))
+valuesMost = targetMost + (numberMost + (lentMost + bytesMost))
 
 request-bounded : (words : List (List ℕ)) → Bounded valuesMost words (requestCall words)
 unfolding requestCall
 request-bounded words =
-    then-bounded Any 12 _ words (target words) _ (target-takes words) λ to h words.
-    then-bounded Any 6 _ words (first number words) _ (number-takes words) λ ticks h words. lent-bytes _ words
+    then-bounded Any targetMost _ words (target words) _ (target-takes words) λ to h words.
+    then-bounded Any numberMost _ words (first number words) _ (number-takes words) λ ticks h words. lent-bytes _ words
 
 cancel-bounded : (words : List (List ℕ)) → Bounded valuesMost words (cancelCall words)
 unfolding cancelCall
 cancel-bounded words =
-    at-most valuesMost (lit≤ tt) (then-bounded Any 12 0 words (target words) _ (target-takes words) λ to h words. alone-bounded _ words (lit≤ tt))
+    at-most valuesMost (lit≤ tt) (then-bounded Any targetMost 0 words (target words) _ (target-takes words) λ to h words. alone-bounded _ words (lit≤ tt))
 
 switch-bounded : (words : List (List ℕ)) → Bounded valuesMost words (switchCall words)
 unfolding switchCall
 switch-bounded words =
     at-most valuesMost (lit≤ tt)
-    (then-bounded Any 3 15 words (first hexByte words) _ (byte-takes words) λ bits h words.
-    then-bounded Any 3 12 words (first hexByte words) _ (byte-takes words) λ timeout h words. lent-alone _ words)
+    (then-bounded Any byteMost (byteMost + lentMost) words (first hexByte words) _ (byte-takes words) λ bits h words.
+    then-bounded Any byteMost lentMost words (first hexByte words) _ (byte-takes words) λ timeout h words. lent-alone _ words)
 
 led-bounded : (words : List (List ℕ)) → Bounded valuesMost words (ledCall words)
 unfolding ledCall
 led-bounded words =
     at-most valuesMost (lit≤ tt)
-    (then-bounded (λ (m : ℕ). m ≤ greatestPort) 6 15 words (first portNumber words) _ (up-to-takes greatestPort words) λ port h words.
-    then-bounded Any 3 12 words (first hexByte words) _ (byte-takes words) λ leds h words. lent-alone _ words)
+    (then-bounded (λ (m : ℕ). m ≤ greatestPort) numberMost (byteMost + lentMost) words (first portNumber words) _ (up-to-takes greatestPort words) λ port h words.
+    then-bounded Any byteMost lentMost words (first hexByte words) _ (byte-takes words) λ leds h words. lent-alone _ words)
 
 frame-bounded : (words : List (List ℕ)) → Bounded valuesMost words (frameCall words)
 unfolding frameCall
 frame-bounded words =
-    at-most valuesMost (lit≤ tt) (then-bounded Any 12 (12 + bytesMost) words (target words) _ (target-takes words) λ to h words. lent-bytes _ words)
+    at-most valuesMost (lit≤ tt) (then-bounded Any targetMost (lentMost + bytesMost) words (target words) _ (target-takes words) λ to h words. lent-bytes _ words)
 
--- names have at most ten characters
+-- no name is longer
+abbrev nameMost : ℕ
+nameMost = length (ascii "get-paired")
+
 same-length : (word name : List ℕ) → sameWord word name ≡ true → length word ≡ length name
 unfolding sameWord
 same-length [] [] e = refl
@@ -250,13 +274,13 @@ same-length (x ∷ word) (y ∷ name) e = ap suc (same-length word name (both (e
 
 data AllBounded : List Row → Type 0 where
   no-row : AllBounded []
-  a-row : {r : Row} {rows : List Row} → length (r .name) ≤ 10 → ((words : List (List ℕ)) → Bounded valuesMost words (r .call words)) → AllBounded rows → AllBounded (r ∷ rows)
+  a-row : {r : Row} {rows : List Row} → length (r .name) ≤ nameMost → ((words : List (List ℕ)) → Bounded valuesMost words (r .call words)) → AllBounded rows → AllBounded (r ∷ rows)
 
 -- no call is longer, with a space after its name
 abbrev pub callMost : ℕ
-callMost = (10 + 1) + valuesMost
+callMost = suc nameMost + valuesMost
 
-named-bounded : (name : List ℕ) (words : List (List ℕ)) (r : Row) (other : Command) (t : Bool) → sameWord name (r .name) ≡ t → length (r .name) ≤ 10 → Bounded valuesMost words (r .call words) → Bounded callMost (name ∷ words) other → Bounded callMost (name ∷ words) (cond t (r .call words) other)
+named-bounded : (name : List ℕ) (words : List (List ℕ)) (r : Row) (other : Command) (t : Bool) → sameWord name (r .name) ≡ t → length (r .name) ≤ nameMost → Bounded valuesMost words (r .call words) → Bounded callMost (name ∷ words) other → Bounded callMost (name ∷ words) (cond t (r .call words) other)
 unfolding sizeOf
 named-bounded name words r other true e n (none-called h) o = none-called h
 named-bounded name words r other true e n (a-call s h) o =
@@ -317,7 +341,7 @@ text-lends : (text : List ℕ) → roomOf (textRule text) ≤ mostLent
 unfolding textRule
 text-lends text =
     either (eqb (length text) 0) blank _ (lit≤ tt)
-    (either (eqb (byte text 0) 35) blank (callOf (words text)) (lit≤ tt) (lends (call-bounded (words text))))
+    (either (eqb (byte text 0) hash) blank (callOf (words text)) (lit≤ tt) (lends (call-bounded (words text))))
 
 pub line-lends : (line : List ℕ) → roomOf (lineRule line) ≤ mostLent
 unfolding lineRule

@@ -109,16 +109,23 @@ abbrev pub callOf : List (List ℕ) → Command
 callOf [] = noCall
 callOf (name ∷ words) = called table name words
 
+abbrev pub carriageReturn : ℕ
+carriageReturn = 13
+
 -- a line without one carriage return at its end
 unfoldable pub withoutReturn : List ℕ → List ℕ
 withoutReturn line =
-    cond (eqb (byte line (lists.length line - 1)) 13) (lists.take (lists.length line - 1) line) line
+    cond (eqb (byte line (lists.length line - 1)) carriageReturn) (lists.take (lists.length line - 1) line) line
+
+-- '#'
+abbrev pub hash : ℕ
+hash = 35
 
 -- an empty line and a line whose first character is '#' give no output; every other line is one call
 unfoldable pub textRule : List ℕ → Command
 textRule text =
     cond (eqb (lists.length text) 0) blank
-    (cond (eqb (byte text 0) 35) blank (callOf (words text)))
+    (cond (eqb (byte text 0) hash) blank (callOf (words text)))
 
 unfoldable pub lineRule : List ℕ → Command
 lineRule line = textRule (withoutReturn line)

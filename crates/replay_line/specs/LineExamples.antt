@@ -7,7 +7,7 @@ use Rattle.replay_line.specs.LineWords.{words, wordsAfter, sameWord}
 use Rattle.replay_line.specs.LineValues.{hexByte, hexDigit, number, digitsAfter, allDigits, valueAfter}
 use Rattle.replay_line.specs.LineFields.{target, lent, bytesOf}
 use Rattle.replay_line.specs.Commands.{Command, blank, noCall, take, request, cancel, tick, switch, getPaired, led, list, read, frame, mouse, dump, write}
-use Rattle.replay_line.specs.LineCalls.{lineRule, textRule, withoutReturn, withBytes, requestCall, cancelCall, switchCall, ledCall, frameCall, otherRows, writerRows}
+use Rattle.replay_line.specs.LineCalls.{carriageReturn, lineRule, textRule, withoutReturn, withBytes, requestCall, cancelCall, switchCall, ledCall, frameCall, otherRows, writerRows}
 
 -- a line, and the call that it is
 record Example : Type 0 where
@@ -40,10 +40,10 @@ examples =
     ∷ reads (ascii "get-paired 0 0") (write getPaired 0 0 [])
     ∷ reads (ascii " # not a comment") noCall
     ∷ reads (ascii "Tick") noCall
-    ∷ reads (ascii "tick" ++ (13 ∷ [])) tick
-    ∷ reads (ascii "take 20 02 41 0e" ++ (13 ∷ [])) (take (0x20 ∷ 0x02 ∷ 0x41 ∷ 0x0e ∷ []))
-    ∷ reads (13 ∷ []) blank
-    ∷ reads (13 ∷ 13 ∷ []) noCall
+    ∷ reads (ascii "tick" ++ (carriageReturn ∷ [])) tick
+    ∷ reads (ascii "take 20 02 41 0e" ++ (carriageReturn ∷ [])) (take (0x20 ∷ 0x02 ∷ 0x41 ∷ 0x0e ∷ []))
+    ∷ reads (carriageReturn ∷ []) blank
+    ∷ reads (carriageReturn ∷ carriageReturn ∷ []) noCall
     ∷ reads (ascii "   ") noCall
     ∷ reads (ascii "take" ++ (9 ∷ ascii "10")) noCall
     ∷ reads (ascii "take") (take [])

@@ -1,29 +1,37 @@
 -- docs/SCRIPTS.md, "Answers": the line of each answer except a taken report's and a dump's, over the rules' answers.
 use Prim.Native.Nat.{ℕ, _+_, _*_}
 use mathlib.Core.List.{List, [], _∷_}
+use lib.ListN.{length}
 use Rattle.report.specs.Reading as reading
 use Rattle.frame.specs.Writing as writing
 use Rattle.mouse.specs.Movement as movement
 use Rattle.port.specs.Waiting as waiting
 use Rattle.text.specs.Words.{ascii, hex, decimal}
-use Rattle.text.specs.Texts.{each}
-use Rattle.replay_fields.specs.AnswerFields.{field, line, byteText, signedText, spaced, refusedText}
+use Rattle.text.specs.Texts.{each, digits8, digits16, numberMost}
+use Rattle.replay_fields.specs.AnswerFields.{field, line, lineEnd, byteText, signedText, spaced, spacedMost, refusedWord, refusedText}
 
 -- the whole lent buffer after the call
 abbrev pub lentText : List ℕ → List ℕ
 lentText lent = each (spaced byteText) lent
 
+-- for each lent byte
+abbrev pub lentMost : ℕ
+lentMost = spacedMost digits8
+
 -- the word, the number, a colon and the buffer; with no lent byte the line ends with the colon
 unfoldable pub outcomeText : List ℕ → ℕ → List ℕ → List ℕ
 outcomeText word number lent = line (word ∷ decimal number ∷ ascii ":" ∷ lentText lent ∷ [])
 
+abbrev pub outcomeMost : (word : List ℕ) → (size : ℕ) → ℕ
+outcomeMost word size = length word + numberMost + length (ascii ":") + lentMost * size + lineEnd
+
 unfoldable pub writtenText : writing.WriteAnswer → List ℕ → List ℕ
-writtenText (writing.refused number) lent = outcomeText (ascii "refused ") number lent
+writtenText (writing.refused number) lent = outcomeText refusedWord number lent
 writtenText (writing.wrote size) lent = outcomeText (ascii "wrote ") size lent
 
--- no line of a writer is longer: three bytes for each lent one, and 32 for the rest of it
+-- no line of a writer is longer, with so many lent bytes: of its two words, that of a refusal is the longer one
 abbrev pub writtenMost : (size : ℕ) → ℕ
-writtenMost size = 3 * size + 32
+writtenMost size = outcomeMost refusedWord size
 
 unfoldable pub cancelledText : waiting.CancelAnswer → List ℕ
 cancelledText (waiting.CancelAnswer.refused number) = refusedText number
@@ -57,7 +65,7 @@ movedText (movement.refused number) = refusedText number
 movedText (movement.moved buttons x y wheel pan) =
     line
     (ascii "moved"
-    ∷ field "buttons" (hex 4 buttons)
+    ∷ field "buttons" (hex digits16 buttons)
     ∷ field "x" (signedText x)
     ∷ field "y" (signedText y)
     ∷ field "wheel" (signedText wheel)

@@ -1,9 +1,9 @@
 -- docs/SCRIPTS.md, "Answers": the line of what taking a report answered, over the rules' answers.
-use Prim.Native.Nat.{ℕ, _+_}
+use Prim.Native.Nat.{ℕ}
 use mathlib.Core.List.{List, [], _∷_, _++_}
 use Rattle.port.specs.Answers as taking
 use Rattle.text.specs.Words.{ascii, hex, decimal}
-use Rattle.text.specs.Texts.{byteMost, linkText}
+use Rattle.text.specs.Texts.{digits16, digits32, linkText}
 use Rattle.replay_fields.specs.AnswerFields.{field, line, byteText, flag, refusedText}
 
 -- what reply, stray, plain notice, event and error have in common
@@ -15,10 +15,6 @@ aboutText a =
     ++ (field "start" (decimal (a .start))
     ++ field "length" (decimal (a .size)))))
 
--- each name with its value at its longest
-abbrev pub aboutMost : ℕ
-aboutMost = (6 + byteMost) + (7 + 2) + (7 + 2) + (7 + byteMost) + (8 + byteMost)
-
 unfoldable pub noticeText : taking.Notice → List ℕ
 noticeText (taking.unpaired port dropped) =
     line (ascii "unpaired" ∷ field "port" (decimal port) ∷ field "dropped" (decimal dropped) ∷ [])
@@ -27,8 +23,8 @@ noticeText (taking.paired port more wpid reports dropped) =
     (ascii "paired"
     ∷ field "port" (decimal port)
     ∷ field "more" (flag more)
-    ∷ field "wpid" (hex 4 wpid)
-    ∷ field "reports" (hex 8 reports)
+    ∷ field "wpid" (hex digits16 wpid)
+    ∷ field "reports" (hex digits32 reports)
     ∷ field "dropped" (decimal dropped)
     ∷ [])
 noticeText taking.emptyList = line (ascii "empty-list" ∷ [])

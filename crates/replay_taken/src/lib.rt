@@ -1,11 +1,12 @@
-// The line of what taking a report answered, put into a lent buffer.
+// The line of what taking a report answered, put whole into a lent buffer, or not at all.
 ghost use mathlib.Core.List.{[], _∷_};
+ghost use mathlib.Core.Path.{_≡_};
 ghost use Prim.Native.Nat.{_+_};
 ghost use lib.ListN.{length};
-ghost use Rattle.text.specs.Putting.{Puts};
+ghost use Rattle.text.specs.Putting.{filled, Puts, wholeRule};
 ghost use Rattle.port.specs.Answers.{radio, failed, paired};
-ghost use Rattle.replay_fields.specs.AnswerFields.{line, answerMost};
-ghost use Rattle.replay_taken.specs.TakenLines.{aboutText, aboutMost, noticeText, takenText};
+ghost use Rattle.replay_fields.specs.AnswerFields.{line, lineEnd, aboutMost, answerMost};
+ghost use Rattle.replay_taken.specs.TakenLines.{aboutText, noticeText, takenText};
 ghost use Rattle.port.specs.PortContracts.{aboutOf, noticeOf, kindNumber, takenOf};
 use port::answer::About;
 use port::answer::ErrorKind;
@@ -28,7 +29,7 @@ fn put_about(buffer: &mut [u8], at: usize, about: About) -> usize
 
 // One of the answers that carry no more than that.
 fn put_carried(buffer: &mut [u8], at: usize, word: &[u8], about: About) -> usize
-    ensures { λ r. ⌜ Puts (length (now (word .entry)) + (aboutMost + 1)) (line (now (word .entry) ∷ aboutText (aboutOf about) ∷ [])) at (now (buffer .entry)) r (now (buffer .exit)) ⌝ }
+    ensures { λ r. ⌜ Puts (length (now (word .entry)) + (aboutMost + lineEnd)) (line (now (word .entry) ∷ aboutText (aboutOf about) ∷ [])) at (now (buffer .entry)) r (now (buffer .exit)) ⌝ }
 {
     let at = text::put_word(buffer, at, word);
     let at = put_about(buffer, at, about);
@@ -67,8 +68,8 @@ fn put_paired(
 {
     let at = replay_fields::put_number(buffer, at, b"paired port=", port.0);
     let at = replay_fields::put_flag(buffer, at, b" more=", more);
-    let at = replay_fields::put_wide(buffer, at, b" wpid=", 4, wpid as usize);
-    let at = replay_fields::put_wide(buffer, at, b" reports=", 8, reports as usize);
+    let at = replay_fields::put_wide(buffer, at, b" wpid=", text::DIGITS_16, wpid as usize);
+    let at = replay_fields::put_wide(buffer, at, b" reports=", text::DIGITS_32, reports as usize);
     let at = replay_fields::put_number(buffer, at, b" dropped=", dropped);
     text::put_byte(buffer, at, b'\n')
 }
@@ -103,9 +104,8 @@ fn put_notice(buffer: &mut [u8], at: usize, notice: Notice) -> usize
     }
 }
 
-// What taking a report answered.
-pub fn put_taken(buffer: &mut [u8], at: usize, answer: Taken) -> usize
-    ensures put { λ r. ⌜ Puts answerMost (takenText (takenOf answer)) at (now (buffer .entry)) r (now (buffer .exit)) ⌝ }
+fn put_taken_line(buffer: &mut [u8], at: usize, answer: Taken) -> usize
+    ensures { λ r. ⌜ Puts answerMost (takenText (takenOf answer)) at (now (buffer .entry)) r (now (buffer .exit)) ⌝ }
 {
     match answer {
         Taken::Refused(refusal) => replay_fields::put_refused(buffer, at, refusal),
@@ -121,4 +121,14 @@ pub fn put_taken(buffer: &mut [u8], at: usize, answer: Taken) -> usize
         } => put_radio(buffer, at, kind, start, length),
         Taken::Noticed(notice) => put_notice(buffer, at, notice),
     }
+}
+
+// What taking a report answered. The offset after the line, or the same offset where there is less room than the longest answer takes.
+pub fn put_taken(buffer: &mut [u8], at: usize, answer: Taken) -> usize
+    ensures put { λ r. ⌜ filled r (now (buffer .exit)) ≡ wholeRule answerMost (takenText (takenOf answer)) at (now (buffer .entry)) ⌝ }
+{
+    if frame::fits(replay_fields::ANSWER, at, buffer.len()) {
+        return put_taken_line(buffer, at, answer);
+    }
+    at
 }

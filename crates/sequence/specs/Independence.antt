@@ -1,16 +1,23 @@
--- Document 01, "Sequences of calls": each port ends as if the other ports' calls had never been made, and so do any two orders.
-use Prim.Native.Nat.{ℕ, _<_}
+-- Document 01, "Sequences of calls": each port ends as if the other ports' calls had never been made, and so do any two orders. Of the rules.
+use Prim.Native.Nat.{ℕ}
 use mathlib.Core.Path.{_≡_}
+use mathlib.Core.Bool.{true}
 use mathlib.Core.List.{List}
-use Rattle.station.specs.Stations.{portCount, freshStation, portAt}
+use Rattle.report.specs.Ports.{isPort}
+use Rattle.station.specs.declared.Station.{Station}
 use Rattle.sequence.specs.Steps.{Call, run}
-use Rattle.sequence.specs.Remaining.{remains, comparedInFull, comparedInRest}
+use Rattle.sequence.specs.Transcripts.{transcript, callsOf}
+use Rattle.sequence.specs.Remaining.{view, remaining, compared}
 
--- for every list of calls and each port: what the port holds at the end, and what is compared of its calls, are those of the run of what remains for it
-pub record Alone (p : ℕ) (cs : List Call) : Type 0 where
-  pub holds : portAt (run freshStation cs) p ≡ portAt (run freshStation (remains p cs)) p
-  pub returns : comparedInFull p freshStation cs ≡ comparedInRest p freshStation (remains p cs)
+-- the calls that remain of a run for the port of a number
+abbrev pub remains : ℕ → Station → List Call → List Call
+remains n st cs = callsOf (remaining n (transcript st cs))
+
+-- what the port holds at the end, and what is compared of its calls, are those of the run of what remains for it
+pub record Alone (n : ℕ) (st : Station) (cs : List Call) : Type 0 where
+  pub holds : view n (run st cs) ≡ view n (run st (remains n st cs))
+  pub returns : compared n (remaining n (transcript st cs)) ≡ compared n (transcript st (remains n st cs))
 
 -- two orders: striking out leaves, for each port, the same calls in the same order
-abbrev pub SameOrders : List Call → List Call → Type 0
-SameOrders cs ds = (p : ℕ) → p < portCount → remains p cs ≡ remains p ds
+abbrev pub SameOrders : Station → List Call → List Call → Type 0
+SameOrders st cs ds = (n : ℕ) → isPort n ≡ true → remains n st cs ≡ remains n st ds

@@ -1,7 +1,15 @@
-pub mod Steps
 pub mod Targets
+pub mod Steps
+pub mod Refused
+pub mod Sentence
+pub mod Readings
+pub mod ReadingsLaws
+pub mod SentenceLaws
+pub mod Starts
+pub mod Transcripts
 pub mod Remaining
 pub mod LocalLaws
+pub mod NumbersLaws
 pub mod Independence
 pub mod IndependenceLaws
 pub mod Histories

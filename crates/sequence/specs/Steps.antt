@@ -1,6 +1,9 @@
--- Document 01, "Sequences of calls": one step of the rules, and their run.
+-- Document 01, "What the console part does" and "Sequences of calls": the table of calls, one step of the rules, and their run.
 use Prim.Native.Nat.{ℕ}
+use mathlib.Core.Bool.{cond}
 use mathlib.Core.List.{List, [], _∷_}
+use Rattle.report.specs.Ports.{receiver, isDevice, isPort}
+use Rattle.report.specs.Reading.{readRule}
 use Rattle.frame.specs.Writing as writing
 use Rattle.port.specs.Answers as answers
 use Rattle.port.specs.Waiting as waiting
@@ -8,6 +11,7 @@ use Rattle.station.specs.declared.Station.{Station}
 use Rattle.station.specs.StationTaking.{TakeOutcome, takeRule}
 use Rattle.station.specs.StationCalls.{RequestOutcome, requestRule, CancelOutcome, cancelRule, TickOutcome, tickAll}
 use Rattle.listing.specs.Listing.{listingRule}
+use Rattle.sequence.specs.Targets.{Target, none, one, all, readTarget}
 
 -- the calls that write a frame or the listing and touch no record, each with its own arguments
 pub data Writer : Type 0 where
@@ -23,22 +27,6 @@ pub data Call : Type 0 where
   cancel : (device byte2 byte3 : ℕ) → Call
   tick : Call
   write : (writer : Writer) (offset : ℕ) (lent : List ℕ) → Call
-
--- the bytes that a call lends to be read
-abbrev pub readOf : Call → List ℕ
-readOf (take bytes) = bytes
-readOf (request device byte2 byte3 ticks params offset lent) = params
-readOf (cancel device byte2 byte3) = []
-readOf tick = []
-readOf (write writer offset lent) = []
-
--- the buffer that a call lends to be written
-abbrev pub lentOf : Call → List ℕ
-lentOf (take bytes) = []
-lentOf (request device byte2 byte3 ticks params offset lent) = lent
-lentOf (cancel device byte2 byte3) = []
-lentOf tick = []
-lentOf (write writer offset lent) = lent
 
 -- the answer or refusal number of a call
 pub data CallAnswer : Type 0 where
@@ -70,20 +58,56 @@ tickStep o = record { answer = ticked (o .ended); read = []; lent = []; station 
 abbrev pub writeStep : Station → writing.WriteOutcome → Outcome
 writeStep st o = record { answer = written (o .answer); read = []; lent = o .lent; station = st }
 
--- the listing alone looks at the station
+-- a writer: which port it is for, and what it writes. Switch and get-paired are for 255; the listing alone looks at the station, and is for none
+pub record WriterRow : Type 0 where
+  pub target : Target
+  pub rule : Station → (offset : ℕ) → (lent : List ℕ) → writing.WriteOutcome
+
+abbrev pub writerRow : Writer → WriterRow
+writerRow (switch bits timeout) =
+    record { target = one receiver; rule = λ st offset lent. writing.switchRule bits timeout offset lent }
+writerRow getPaired = record { target = one receiver; rule = λ st offset lent. writing.getPairedRule offset lent }
+writerRow (led device leds) =
+    record { target = cond (isDevice device) (one device) none; rule = λ st offset lent. writing.ledRule device leds offset lent }
+writerRow list = record { target = none; rule = λ st offset lent. listingRule (st .ports) offset lent }
+
 abbrev pub writerRule : Station → Writer → ℕ → List ℕ → writing.WriteOutcome
-writerRule st (switch bits timeout) offset lent = writing.switchRule bits timeout offset lent
-writerRule st getPaired offset lent = writing.getPairedRule offset lent
-writerRule st (led device leds) offset lent = writing.ledRule device leds offset lent
-writerRule st list offset lent = listingRule (st .ports) offset lent
+writerRule st writer offset lent = writerRow writer .rule st offset lent
+
+-- a call: the bytes that it lends to be read, the buffer that it lends to be written, which port it is for, and its outcome. The call alone decides which port; those refused with 5 are for none
+pub record CallRow : Type 0 where
+  pub read : List ℕ
+  pub lent : List ℕ
+  pub target : Target
+  pub outcome : Station → Outcome
+
+-- the table of calls
+abbrev pub callRow : Call → CallRow
+callRow (take bytes) =
+    record { read = bytes; lent = []; target = readTarget (readRule bytes); outcome = λ st. takeStep bytes (takeRule st bytes) }
+callRow (request device byte2 byte3 ticks params offset lent) =
+    record { read = params; lent = lent; target = cond (isPort device) (one device) none; outcome = λ st. requestStep params (requestRule st device byte2 byte3 ticks params offset lent) }
+callRow (cancel device byte2 byte3) =
+    record { read = []; lent = []; target = cond (isPort device) (one device) none; outcome = λ st. cancelStep (cancelRule st device byte2 byte3) }
+callRow tick = record { read = []; lent = []; target = all; outcome = λ st. tickStep (tickAll st) }
+callRow (write writer offset lent) =
+    record { read = []; lent = lent; target = writerRow writer .target; outcome = λ st. writeStep st (writerRule st writer offset lent) }
+
+abbrev pub readOf : Call → List ℕ
+readOf c = callRow c .read
+
+abbrev pub lentOf : Call → List ℕ
+lentOf c = callRow c .lent
+
+unfoldable pub target : Call → Target
+target c = callRow c .target
+
+-- the label of a call in a run: which port it is for, read off the station that it is made on and the call. The call alone decides
+abbrev pub labelOf : Station → Call → Target
+labelOf st c = target c
 
 unfoldable pub step : Station → Call → Outcome
-step st (take bytes) = takeStep bytes (takeRule st bytes)
-step st (request device byte2 byte3 ticks params offset lent) =
-    requestStep params (requestRule st device byte2 byte3 ticks params offset lent)
-step st (cancel device byte2 byte3) = cancelStep (cancelRule st device byte2 byte3)
-step st tick = tickStep (tickAll st)
-step st (write writer offset lent) = writeStep st (writerRule st writer offset lent)
+step st c = callRow c .outcome st
 
 -- one step after another: the final station
 unfoldable pub run : Station → List Call → Station

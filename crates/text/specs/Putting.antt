@@ -1,9 +1,10 @@
--- Text put into a lent buffer from an offset on, as much of it as fits.
+-- Text put into a lent buffer from an offset on: as much of it as fits, or all of it or nothing.
 use Prim.Native.Nat.{ℕ, _+_, _-_, _≤_}
 use mathlib.Core.Path.{_≡_}
 use mathlib.Core.List.{List}
+use mathlib.Core.Bool.{cond}
 use lib.ListN.{length, take}
-use Rattle.frame.specs.Writing.{pasted}
+use Rattle.frame.specs.Writing.{fitsAt, pasted}
 
 -- what putting a text leaves: the offset after it, and the lent buffer
 pub record Filled : Type 0 where
@@ -26,3 +27,9 @@ putRule text at lent =
 pub record Puts (most : ℕ) (text : List ℕ) (at : ℕ) (b : List ℕ) (next : ℕ) (b₁ : List ℕ) : Type 0 where
   pub put : filled next b₁ ≡ putRule text at b
   pub short : length text ≤ most
+
+-- all of a text or nothing: where `most` bytes fit between the offset and the buffer's end, the whole text is at the offset, and the bytes before and after it keep their values; else nothing is put, and the offset after it is the same
+unfoldable pub wholeRule : (most : ℕ) → List ℕ → ℕ → List ℕ → Filled
+wholeRule most text at lent =
+    cond (fitsAt most at (length lent)) (filled (at + length text) (pasted text at lent))
+    (filled at lent)

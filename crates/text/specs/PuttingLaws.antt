@@ -1,6 +1,7 @@
--- Laws of putting text: nothing, one byte, one text after another, and a whole text where there is room.
+-- Laws of putting text: nothing, one byte, one text after another, and a whole text or nothing.
 use Prim.Native.Nat.{ℕ, zero, suc, _+_, _-_, _≤_, _<_}
-use mathlib.Core.Path.{_≡_, sym, _∙_, ap, subst}
+use mathlib.Core.Path.{_≡_, refl, sym, _∙_, ap, subst}
+use mathlib.Core.Bool.{Bool, true, false}
 use mathlib.Core.List.{List, [], _∷_, _++_, append-assoc}
 use native.Mathlib.Nat.{add-zero, add-assoc, le-refl}
 use native.Mathlib.Numerals.{add-one}
@@ -8,8 +9,9 @@ use native.Mathlib.Omega.{arith}
 use native.Mathlib.Decide.{decLe}
 use lib.ListN.{length, take, drop, set, length-append, length-take, length-drop, take-append-drop}
 use lib.Seq.{take-nil, take-all, take-at, drop-append-add, drop-drop, set-split, length-take-le}
-use Rattle.frame.specs.Writing.{pasted}
-use Rattle.text.specs.Putting.{Filled, filled, fitting, putRule, Puts}
+use borrow.Author.Tests.{leb-true, le-leb}
+use Rattle.frame.specs.Writing.{fitsAt, pasted}
+use Rattle.text.specs.Putting.{Filled, filled, fitting, putRule, Puts, wholeRule}
 
 -- no text leaves all as it was
 pasted-nothing : (at : ℕ) (b : List ℕ) → pasted [] at b ≡ b
@@ -126,6 +128,13 @@ module _ {at : ℕ} {b : List ℕ} {next : ℕ} {b₁ : List ℕ} where
     pub whole-put : at + most ≤ length b → filled next b₁ ≡ filled (at + length text) (pasted text at b)
     whole-put room = p .put ∙ whole text at b (omega (arith, p .short))
 
+    -- so a test of room makes it whole or nothing
+    pub put-with-room : {fits : Bool} → fits ≡ fitsAt most at (length b) → fits ≡ true → filled next b₁ ≡ wholeRule most text at b
+    unfolding wholeRule
+    put-with-room test so =
+        let room : fitsAt most at (length b) ≡ true = sym test ∙ so in
+        whole-put (leb-true _ _ room) ∙ sym (simp room)
+
   -- one text after another: a list of texts is put by this law, once for each
   pub then-put : {m k : ℕ} {s t : List ℕ} {n₂ : ℕ} {b₂ : List ℕ} → Puts m s at b next b₁ → Puts k t next b₁ n₂ b₂ → Puts (m + k) (s ++ t) at b n₂ b₂
   then-put {m} {k} {s} {t} p q =
@@ -136,3 +145,23 @@ module _ {at : ℕ} {b : List ℕ} {next : ℕ} {b₁ : List ℕ} where
 
 pub nothing-put : (at : ℕ) (b : List ℕ) → Puts 0 [] at b at b
 nothing-put at b = record { put = nothing at b; short = le-refl 0 }
+
+-- without room nothing is put
+pub put-without-room : {fits : Bool} (most : ℕ) (text : List ℕ) (at : ℕ) (b : List ℕ) → fits ≡ fitsAt most at (length b) → fits ≡ false → filled at b ≡ wholeRule most text at b
+unfolding wholeRule
+put-without-room most text at b test so =
+    let room : fitsAt most at (length b) ≡ false = sym test ∙ so in
+    sym (simp room)
+
+-- and with room all of it is
+pub whole-with-room : (most : ℕ) (text : List ℕ) (at : ℕ) (b : List ℕ) → at + most ≤ length b → wholeRule most text at b ≡ filled (at + length text) (pasted text at b)
+unfolding wholeRule
+whole-with-room most text at b room = simp (le-leb (at + most) (length b) room)
+
+-- no text has its room everywhere
+pub nothing-whole : (at : ℕ) (b : List ℕ) → filled at b ≡ wholeRule 0 [] at b
+nothing-whole at b = by (fitsAt 0 at (length b)) refl
+  where
+    by : (fits : Bool) → fits ≡ fitsAt 0 at (length b) → filled at b ≡ wholeRule 0 [] at b
+    by true test = put-with-room (nothing-put at b) test refl
+    by false test = put-without-room 0 [] at b test refl

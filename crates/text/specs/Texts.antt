@@ -1,7 +1,8 @@
 -- Document 01, "Port listing": texts one after another, and the text of a link, of a version and of a battery.
-use Prim.Native.Nat.{ℕ, suc, _+_}
+use Prim.Native.Nat.{ℕ, suc, _+_, _*_}
 use mathlib.Core.List.{List, [], _∷_, _++_}
 use mathlib.Core.Bool.{Bool, cond}
+use lib.ListN.{length}
 use Rattle.port.specs.declared.Version.{Version}
 use Rattle.port.specs.declared.Version.the-variants as versions
 use Rattle.port.specs.declared.Battery.{Battery}
@@ -16,7 +17,17 @@ eachFrom text n (x ∷ xs) = text n x ++ eachFrom text (suc n) xs
 abbrev pub each : {A : Type 0} → (ℕ → A → List ℕ) → List A → List ℕ
 each text xs = eachFrom text 0 xs
 
--- no number of 64 bits has more digits
+-- the hexadecimal digits of a number of 8, of 16 and of 32 bits
+abbrev pub digits8 : ℕ
+digits8 = 2
+
+abbrev pub digits16 : ℕ
+digits16 = 2 * digits8
+
+abbrev pub digits32 : ℕ
+digits32 = 2 * digits16
+
+-- no number of 64 bits has more decimal digits
 abbrev pub numberMost : ℕ
 numberMost = 20
 
@@ -28,7 +39,7 @@ unfoldable pub linkText : Bool → List ℕ
 linkText up = cond up (ascii "up") (ascii "down")
 
 abbrev pub linkMost : ℕ
-linkMost = 4
+linkMost = length (ascii "down")
 
 -- unknown is "-"
 abbrev pub unknown : List ℕ
@@ -40,7 +51,7 @@ versionText versions.Unknown = unknown
 versionText (versions.Known major minor) = decimal major ++ (ascii "." ++ decimal minor)
 
 abbrev pub versionMost : ℕ
-versionMost = byteMost + (1 + byteMost)
+versionMost = byteMost + (length (ascii ".") + byteMost)
 
 -- level,next,status
 unfoldable pub batteryText : Battery → List ℕ
@@ -49,4 +60,4 @@ batteryText (batteries.Known level next status) =
     decimal level ++ (ascii "," ++ (decimal next ++ (ascii "," ++ decimal status)))
 
 abbrev pub batteryMost : ℕ
-batteryMost = byteMost + (1 + (byteMost + (1 + byteMost)))
+batteryMost = byteMost + (length (ascii ",") + (byteMost + (length (ascii ",") + byteMost)))

@@ -8,7 +8,16 @@ ghost use Rattle.text.specs.Texts.{numberMost, byteMost, linkText, linkM
 use port::Battery;
 use port::Version;
 
-// The longest text of a byte in decimal, of a link, of a version and of a battery.
+// The hexadecimal digits of a number of 8, of 16 and of 32 bits.
+pub const DIGITS_8: u8 = 2;
+
+pub const DIGITS_16: u8 = 2 * DIGITS_8;
+
+pub const DIGITS_32: u8 = 2 * DIGITS_16;
+
+// The longest text of a number of 64 bits and of a byte, both in decimal, of a link, of a version and of a battery.
+pub const NUMBER_MOST: usize = 20;
+
 pub const BYTE_MOST: usize = 3;
 
 pub const LINK_MOST: usize = 4;

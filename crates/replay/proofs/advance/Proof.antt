@@ -1,28 +1,11 @@
 -- `replay::advance` meets its contract.
-use Prim.Native.Nat.{ℕ, _≤_}
-use mathlib.Core.Path.{sym, subst}
-use native.Mathlib.Omega.{arith}
-use lib.Seq.{length-take-le}
+use Rattle.replay.specs.TurnLaws.{fed-turn}
 use borrow.Author.Needs.{needs}
 use Rattle.replay.proofs.advance.Statement.{statement}
 use Rattle.replay.proofs.advance.Tie as tie
 
-slice-aggregate-answer-lines : tie.Need-slice-aggregate-answer-lines
-slice-aggregate-answer-lines c = sym (length-take-le _ _ (c .before .before .before .pre .0))
-
-move-down-requires : tie.Need-move-down-requires
-move-down-requires c κs = (omega arith, (subst (λ (n : ℕ). c .before .before .before .before .answer-lines .result .used ≤ n) (length-take-le _ _ (c .before .before .before .before .before .before .before .before .before .pre .0)) (c .before .before .before .before .answer-lines .ensures .0), c .before .before .before .before .before .before .before .before .before .pre .0))
+returns : tie.Need-returns
+returns c = fed-turn (c .before .before .before .before .before .before .before .before .before .before .before .args .state) _ _ (c .before .before .before .before .before .before .feed .result) _ (c .before .before .before .before .before .before .before .before .before .before .before .pre .1 .0) (c .before .before .before .before .before .before .feed .ensures .0) (c .before .before .before .before .before .before .feed .ensures .1 .0) (c .before .before .before .before .before .before .feed .ensures .1 .1)
 
 pub advance-spec : {M : Type 1} → statement M
-advance-spec =
-    tie.close
-    (tie.spec
-    (λ c. search needs)
-    slice-aggregate-answer-lines
-    (λ c κs. search needs)
-    move-down-requires
-    (λ c κs. search needs)
-    (λ c κs. search needs)
-    (λ c. search needs)
-    (λ c. search needs)
-    (λ c. search needs))
+advance-spec = tie.close (tie.spec (λ c κs. search needs) (λ c κs. search needs) (λ c. search needs) (λ c. search needs) returns)

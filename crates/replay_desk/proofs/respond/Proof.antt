@@ -3,7 +3,7 @@ use mathlib.Core.Path.{refl, ap}
 use lib.Dec.{lit≤}
 use Rattle.report.specs.Reading.{Read}
 use Rattle.mouse.specs.Movement.{Movement}
-use Rattle.text.specs.PuttingLaws.{nothing-put}
+use Rattle.text.specs.PuttingLaws.{nothing-whole}
 use Rattle.replay_render.specs.AnswerLines.{readingText, movedText}
 use Rattle.replay_desk.specs.LineAnswers.{keeping, commandRule}
 use Rattle.replay_desk.specs.ShownLaws.{shown}
@@ -32,7 +32,7 @@ returns-4 c = rw (c .before .before .before .before .before .command2 .given .1)
 
 returns-5 : tie.Need-returns-5
 unfolding commandRule
-returns-5 c = rw (c .enum-told .given .1) (shown (c .before .before .before .before .pre .0) (lit≤ tt) refl (nothing-put _ _))
+returns-5 c = rw (c .enum-told .given .1) (shown (c .before .before .before .before .pre .0) (lit≤ tt) refl (nothing-whole _ _))
 
 returns-6 : tie.Need-returns-6
 unfolding commandRule

@@ -2,7 +2,7 @@
 use mathlib.Core.Path.{sym, _∙_}
 use lib.Seq.{length-take-le}
 use borrow.Author.Tests.{eq-eqb, ne-eqb}
-use Rattle.replay_line.specs.LineCalls.{textRule, lineRule}
+use Rattle.replay_line.specs.LineCalls.{hash, textRule, lineRule}
 use borrow.Author.Needs.{needs}
 use Rattle.replay_line.proofs.parse_line.Statement.{statement}
 use Rattle.replay_line.proofs.parse_line.Tie as tie
@@ -16,11 +16,11 @@ returns c = (c .bare .ensures .so ∙ sym (simp (sym (c .before .before .before 
 
 returns-2 : tie.Need-returns-2
 unfolding lineRule textRule
-returns-2 c = (c .bare2 .ensures .so ∙ sym (simp (sym (c .before .before .before .before .before .text-end .ensures .1), ne-eqb _ 0 (c .before .before .before .if1 .left), eq-eqb _ 35 (c .before .if2 .taken))), c .bare2 .ensures .within)
+returns-2 c = (c .bare2 .ensures .so ∙ sym (simp (sym (c .before .before .before .before .before .text-end .ensures .1), ne-eqb _ 0 (c .before .before .before .if1 .left), eq-eqb _ hash (c .before .if2 .taken))), c .bare2 .ensures .within)
 
 returns-3 : tie.Need-returns-3
 unfolding lineRule textRule
-returns-3 c = (c .parse-call .ensures .so ∙ sym (simp (sym (c .before .before .before .before .before .text-end .ensures .1), ne-eqb _ 0 (c .before .before .before .if1 .left), ne-eqb _ 35 (c .before .if2 .left))), c .parse-call .ensures .within)
+returns-3 c = (c .parse-call .ensures .so ∙ sym (simp (sym (c .before .before .before .before .before .text-end .ensures .1), ne-eqb _ 0 (c .before .before .before .if1 .left), ne-eqb _ hash (c .before .if2 .left))), c .parse-call .ensures .within)
 
 pub parse-line-spec : {M : Type 1} → statement M
 parse-line-spec =

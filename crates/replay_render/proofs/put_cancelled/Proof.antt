@@ -1,28 +1,16 @@
 -- `replay_render::put_cancelled` meets its contract.
 use borrow.Author.Needs.{needs}
-use Rattle.replay_fields.specs.PartsLaws.{an-answer}
-use Rattle.replay_render.specs.AnswerLines.{cancelledText}
+use Rattle.text.specs.PuttingLaws.{put-with-room, put-without-room}
 use Rattle.replay_render.proofs.put_cancelled.Statement.{statement}
 use Rattle.replay_render.proofs.put_cancelled.Tie as tie
 
 returns : tie.Need-returns
-unfolding cancelledText
-returns c = rw (c .before .before .before .before .before .answer .given .1) (an-answer tt (c .before .before .put-refused .ensures))
+returns c = put-with-room (c .before .before .put-cancelled-line .ensures) (c .before .before .before .before .before .fits2 .ensures) (c .before .before .before .before .if1 .taken)
 
 returns-2 : tie.Need-returns-2
-unfolding cancelledText
-returns-2 c = rw (c .before .before .before .before .before .enum-told .given .1) (an-answer tt (c .before .before .put-word .ensures))
+returns-2 c = put-without-room _ _ _ _ (c .before .fits2 .ensures) (c .if1 .left)
 
 pub put-cancelled-spec : {M : Type 1} → statement M
 put-cancelled-spec =
     tie.close
-    (tie.spec
-    (λ c. search needs)
-    (λ c κs. search needs)
-    (λ c. search needs)
-    (λ c. search needs)
-    (λ c κs. search needs)
-    (λ c. search needs)
-    returns
-    (λ c. search needs)
-    returns-2)
+    (tie.spec (λ c κs. search needs) (λ c κs. search needs) (λ c. search needs) returns returns-2)

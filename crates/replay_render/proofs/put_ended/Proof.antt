@@ -1,22 +1,16 @@
 -- `replay_render::put_ended` meets its contract.
 use borrow.Author.Needs.{needs}
-use Rattle.text.specs.PuttingLaws.{then-put}
-use Rattle.replay_fields.specs.PartsLaws.{an-answer}
-use Rattle.replay_render.specs.AnswerLines.{endedText}
+use Rattle.text.specs.PuttingLaws.{put-with-room, put-without-room}
 use Rattle.replay_render.proofs.put_ended.Statement.{statement}
 use Rattle.replay_render.proofs.put_ended.Tie as tie
 
 returns : tie.Need-returns
-unfolding endedText
-returns c = an-answer tt (then-put (c .before .before .before .before .before .before .before .before .before .before .put-word .ensures) (then-put (c .before .before .before .before .before .before .put-counts .ensures) (c .before .before .put-byte .ensures)))
+returns c = put-with-room (c .before .before .put-ended-line .ensures) (c .before .before .before .before .before .fits2 .ensures) (c .before .before .before .before .if1 .taken)
+
+returns-2 : tie.Need-returns-2
+returns-2 c = put-without-room _ _ _ _ (c .before .fits2 .ensures) (c .if1 .left)
 
 pub put-ended-spec : {M : Type 1} → statement M
 put-ended-spec =
     tie.close
-    (tie.spec
-    (λ c. search needs)
-    (λ c κs. search needs)
-    (λ c κs. search needs)
-    (λ c κs. search needs)
-    (λ c. search needs)
-    returns)
+    (tie.spec (λ c κs. search needs) (λ c κs. search needs) (λ c. search needs) returns returns-2)

@@ -1,0 +1,83 @@
+-- The three demands, as one statement about the program: a field for each sentence, in our words. `Ensured st c o` is what the program's own function was proved to ensure of the call c on the station st with the outcome o, its contract itself (crate sequence, Histories). Ports are named by their numbers, 1 to 6 and 255. The premise `Reached` holds after every sequence of calls (the field `reached`).
+use Prim.Native.Nat.{ℕ, _≤_}
+use mathlib.Core.Path.{_≡_}
+use mathlib.Core.Logic.{_↔_}
+use mathlib.Core.Bool.{true, cond}
+use mathlib.Core.List.{List, _++_, map}
+use lib.ListN.{length, getD}
+use denote.Ref.{RefT, now}
+use Rattle.report.specs.Ports.{isPort}
+use Rattle.report.specs.Reading.{readRule}
+use Rattle.port.specs.Records.{emptyPlace, requestIn}
+use Rattle.port.specs.PortContracts.{takenOf}
+use Rattle.station.specs.declared.Station.{Station}
+use Rattle.station.specs.declared.TakeResult.{TakeResult}
+use Rattle.station.specs.StationContracts.{takeOutcome}
+use Rattle.station.specs.Stations.{portCount, positionOf}
+use Rattle.station.proofs.Station.new.Reads as new-reads
+use Rattle.sequence.specs.Starts.{Start}
+use Rattle.sequence.specs.Steps.{Call, take, readOf, lentOf, ticked, Outcome, takeStep, step, run, returned, labelOf}
+use Rattle.sequence.specs.Targets.{one, all}
+use Rattle.sequence.specs.Sentence.{sentence}
+use Rattle.sequence.specs.Refused.{isRefusal}
+use Rattle.sequence.specs.Transcripts.{callsOf, transcript}
+use Rattle.sequence.specs.Remaining.{view, remaining, comparedOf, compared}
+use Rattle.sequence.specs.Histories.{Ensured, Made, callOf, History, last, made}
+use Rattle.reach.specs.Sound.{Reached}
+use Rattle.reach.specs.CallCases.{AllPlaced}
+use Rattle.reach.specs.RefusalTable.{ByTheTable}
+use Rattle.reach.specs.Completion.{isReply, isFailure, isHidppRead, Replies, Fails, endsIn}
+use Rattle.reach.specs.Ends.{EndsAt, Accounted}
+use Rattle.reach.specs.Fields.{ChangesListed}
+use Rattle.encoded.specs.declared.RunResult.{RunResult}
+use Rattle.encoded.specs.Decoding.{calls, decode}
+use Rattle.encoded.specs.Encoding.{Bytes}
+use Rattle.encoded.specs.EncodedRuns.{rowsSize, ran, ReadsBack}
+use Rattle.encoded.specs.EncodedContracts.{outcomeOf}
+use Rattle.encoded.proofs.run_encoded.Reads as run-reads
+use Rattle.demands.specs.WithoutStation.{WithoutStation}
+
+pub record Demands : Type 0 where
+  -- Demand 1. Any bytes, any length, any order of calls: every call ends with an answer, and its outcome is the one that the rules give
+  pub answers : (st : Station) (c : Call) (o : Outcome) → Ensured st c o → o ≡ step st c
+  -- Each call refuses bad input itself: with each number exactly when that number's row of the table holds
+  pub refuses : (st : Station) → AllPlaced st → (c : Call) (o : Outcome) → Ensured st c o → ByTheTable st c (o .answer)
+  -- A refused call leaves the station, the bytes lent to be read and the buffer lent to be written as they were
+  pub station-kept : (st : Station) (c : Call) (o : Outcome) → Ensured st c o → isRefusal (o .answer) ≡ true → o .station ≡ st
+  pub bytes-kept : (st : Station) (c : Call) (o : Outcome) → Ensured st c o → isRefusal (o .answer) ≡ true → (o .read ≡ readOf c) × (o .lent ≡ lentOf c)
+  -- Demand 2. Without a station, reports are read and frames are written as the rules say
+  pub without-station : WithoutStation
+  -- A reply completes a request exactly when one waits on the device that byte 1 names with the same bytes 2 and 3
+  pub replies : (st : Station) → Reached st → (bytes : List ℕ) (r : TakeResult) → Ensured st (take bytes) (takeStep bytes (takeOutcome r)) → (isReply (takenOf (r .answer)) ≡ true) ↔ Replies st bytes
+  -- An error, exactly when one waits there with the two bytes that the error names, and its kind fits that request
+  pub errors : (st : Station) → Reached st → (bytes : List ℕ) (r : TakeResult) → Ensured st (take bytes) (takeStep bytes (takeOutcome r)) → (isFailure (takenOf (r .answer)) ≡ true) ↔ Fails st bytes
+  -- Each ends that one and no other: of every port, the place of the request that it answers is emptied, and every other place stays. DJ reports complete none, and drop all of a port's requests exactly at 0x40, and at 0x41 with another WPID or for a device that is not paired
+  pub ends : (st : Station) → Reached st → (bytes : List ℕ) (r : TakeResult) → Ensured st (take bytes) (takeStep bytes (takeOutcome r)) → (n : ℕ) → isPort n ≡ true → (place : ℕ) → requestIn (view n (r .station) .places) place ≡ cond (endsIn st bytes n place) emptyPlace (requestIn (view n st .places) place)
+  pub at-most-one : (st : Station) → Reached st → (bytes : List ℕ) → isHidppRead (readRule bytes) ≡ true → (n m i j : ℕ) → isPort n ≡ true → isPort m ≡ true → endsIn st bytes n i ≡ true → endsIn st bytes m j ≡ true → (n ≡ m) × (i ≡ j)
+  -- Records change only as document 01 lists: of every port, by every call, a field that is not listed stays
+  pub changes : (st : Station) → Reached st → (c : Call) (o : Outcome) → Ensured st c o → (n : ℕ) → isPort n ≡ true → ChangesListed n c (o .answer) (view n st) (view n (o .station))
+  -- Each count is that of places emptied: what becomes of every place of every port by every call, and the counts for each way in which a request ends
+  pub counts : (st : Station) → Reached st → (c : Call) (o : Outcome) → Ensured st c o → (n : ℕ) → isPort n ≡ true → EndsAt n c (o .answer) (view n st) (view n (o .station))
+  -- Demand 3, for every history: calls that the program made, in any order, with any arguments and any lent bytes, refused ones included; the first on a start, which a new station is, each later one on the station that the call before it handed back or left
+  pub begins : (r : Station) → new-reads.Learnt tt tt r tt → Start r
+  pub reached : (st : Station) → Start st → (ms : List Made) → History st ms → Reached (last st ms)
+  -- Every answer and the lent bytes after every call are those that the rules give, and so is the station at the end
+  pub every-answer : (st : Station) → Start st → (ms : List Made) → History st ms → made st ms ≡ transcript st (map callOf ms)
+  pub final-station : (st : Station) → Start st → (ms : List Made) → History st ms → last st ms ≡ run st (map callOf ms)
+  -- For each port, strike out every call for another port or for none, and keep the ticks: which calls these are, document 01 says by the answer
+  pub struck : (st : Station) (c : Call) (o : Outcome) → Ensured st c o → labelOf st c ≡ sentence c (o .answer)
+  -- What remains, run from the same start: at its end the port holds exactly what it holds after the full run
+  pub holds : (n : ℕ) → isPort n ≡ true → (st : Station) → Start st → (ms ns : List Made) → History st ms → History st ns → map callOf ns ≡ callsOf (remaining n (made st ms)) → view n (last st ms) ≡ view n (last st ns)
+  -- Each call that remains gives the same answer and leaves the same lent bytes; of a tick's answer, that port's count is compared
+  pub returns : (n : ℕ) → isPort n ≡ true → (st : Station) → Start st → (ms ns : List Made) → History st ms → History st ns → map callOf ns ≡ callsOf (remaining n (made st ms)) → compared n (remaining n (made st ms)) ≡ compared n (made st ns)
+  pub compares-all : (n number : ℕ) (o q : Outcome) → comparedOf n (one number) (returned o) ≡ comparedOf n (one number) (returned q) → (o .answer ≡ q .answer) × ((o .read ≡ q .read) × (o .lent ≡ q .lent))
+  pub compares-count : (n : ℕ) (o q : Outcome) (xs ys : List ℕ) → o .answer ≡ ticked xs → q .answer ≡ ticked ys → comparedOf n all (returned o) ≡ comparedOf n all (returned q) → getD xs (positionOf n) 0 ≡ getD ys (positionOf n) 0
+  -- So any two orders that keep each port's own calls and the ticks in sequence end in the same station
+  pub orders : (st : Station) → Start st → (ms ns : List Made) → History st ms → History st ns → ((n : ℕ) → isPort n ≡ true → callsOf (remaining n (made st ms)) ≡ callsOf (remaining n (made st ns))) → last st ms ≡ last st ns
+  -- A history may be cut anywhere: its second part is a history from where the first one ends
+  pub cut : (st : Station) (ms ns : List Made) → History st (ms ++ ns) → History st ms × History (last st ms) ns
+  -- Over every history and for each port: requests accepted are those answered by reply, by error, expired, cancelled, dropped, and those that wait, counted from the answers given
+  pub accounted : (n : ℕ) → isPort n ≡ true → (st : Station) → Start st → (ms : List Made) → History st ms → Accounted n (made st ms) (view n (last st ms))
+  -- A run of encoded calls by the program, `encoded::run_encoded`: where the bytes are calls and there is room for their answers, the final station, every lent byte and every row are those of the rules' run; and the rows read back as the answers
+  pub runs : (κ κ′ κ″ : List ℕ) (st : Station) (encoded arena arenaAfter answers answersAfter : RefT (List ℕ)) (r : RunResult) → run-reads.Learnt (κ, (κ′, (κ″, tt))) (st, (encoded, (arena, (answers, tt)))) r (st, (encoded, (arenaAfter, (answersAfter, tt)))) → (cs : List Call) → decode (now encoded) (now arena) ≡ calls cs → rowsSize cs ≤ length (now answers) → outcomeOf r (now arenaAfter) (now answersAfter) ≡ ran st cs (now answers)
+  pub rows : (κ κ′ κ″ : List ℕ) (st : Station) (encoded arena arenaAfter answers answersAfter : RefT (List ℕ)) (r : RunResult) → run-reads.Learnt (κ, (κ′, (κ″, tt))) (st, (encoded, (arena, (answers, tt)))) r (st, (encoded, (arenaAfter, (answersAfter, tt)))) → length (st .ports) ≡ portCount → (cs : List Call) → decode (now encoded) (now arena) ≡ calls cs → rowsSize cs ≤ length (now answers) → Bytes (now encoded) → Bytes (now arena) → ReadsBack st cs (now answersAfter)

@@ -1,0 +1,195 @@
+-- What a console's author reads off the demands: each field of the statement is used here, in other words, so that none of them can say less.
+use Prim.Native.Nat.{ℕ, _+_, _≤_, _<_}
+use mathlib.Core.Path.{_≡_, refl, sym, _∙_, ap}
+use mathlib.Core.Bool.{Bool, true, false, cond, not, _&&_, false≢true}
+use mathlib.Core.List.{List, [], _∷_, _++_, map}
+use lib.ListN.{length, getD}
+use lib.Dec.{eqb}
+use borrow.Author.Tests.{eqb-true, not-true}
+use Rattle.report.specs.ChoicesLaws.{both}
+use denote.Ref.{RefT, now}
+use Rattle.report.specs.Ports.{isPort}
+use Rattle.report.specs.Sizes.{byte}
+use Rattle.report.specs.Reading as reading
+use Rattle.report.specs.Reading.{Read, readRule}
+use Rattle.frame.specs.Forbidden.{isAskable}
+use Rattle.frame.specs.declared.Written.{Written}
+use Rattle.frame.specs.FrameContracts.{writtenOf, writtenOutcome}
+use Rattle.port.specs.declared.Port.{Port}
+use Rattle.port.specs.declared.Request.{Request}
+use Rattle.port.specs.Records.{emptyPlace, requestIn}
+use Rattle.port.specs.Places.{isEmpty, matches}
+use Rattle.port.specs.Answers as answers
+use Rattle.port.specs.PortContracts.{takenOf}
+use Rattle.blotterfinch.specs.declared.Report.{Report}
+use Rattle.blotterfinch.specs.CContracts.{cReport}
+use Rattle.blotterfinch.proofs.blotterfinch_read.Reads as read-reads
+use Rattle.station.specs.declared.Station.{Station}
+use Rattle.station.specs.declared.TakeResult.{TakeResult}
+use Rattle.station.specs.declared.RequestResult.{RequestResult}
+use Rattle.station.specs.declared.CancelResult.{CancelResult}
+use Rattle.station.specs.declared.TickResult.{TickResult}
+use Rattle.station.specs.StationContracts.{takeOutcome, requestOutcome, cancelOutcome, tickOutcome}
+use Rattle.station.specs.Stations.{portCount, positionOf, portAt}
+use Rattle.station.proofs.Station.new.Reads as new-reads
+use Rattle.sequence.specs.Starts.{Start}
+use Rattle.sequence.specs.Steps.{led, Call, take, request, cancel, tick, write, taken, written, ticked, Outcome, takeStep, requestStep, cancelStep, tickStep, writeStep, step, run, returned, labelOf}
+use Rattle.sequence.specs.Targets.{one, all}
+use Rattle.sequence.specs.Sentence.{sentence}
+use Rattle.sequence.specs.Refused.{isRefusal}
+use Rattle.sequence.specs.Transcripts.{callsOf, transcript}
+use Rattle.sequence.specs.Remaining.{view, remaining, comparedOf, compared}
+use Rattle.sequence.specs.Histories.{Ensured, Made, callOf, History, last, made}
+use Rattle.reach.specs.Sound.{Reached}
+use Rattle.reach.specs.CallCases.{AllPlaced}
+use Rattle.reach.specs.RefusalTable.{led5, Row, RefusedWith}
+use Rattle.reach.specs.Completion.{isReply, isFailure, isHidppRead, Replies, Fails, readEnds, endsIn}
+use Rattle.reach.specs.Ends.{byReply, byError, byExpiry, byCancel, byDrop, endingOf, endedOn, waitingOn, endedIn, begunIn}
+use Rattle.reach.specs.Fields.{battery}
+use Rattle.encoded.specs.declared.RunResult.{RunResult}
+use Rattle.encoded.specs.Decoding.{calls, decode}
+use Rattle.encoded.specs.Encoding.{Bytes}
+use Rattle.encoded.specs.EncodedRuns.{rowsSize, EncodedOutcome, ran, ReadsBack}
+use Rattle.encoded.proofs.run_encoded.Reads as run-reads
+use Rattle.demands.specs.Demands.{Demands}
+
+-- a report that names another device ends no request here
+other-device : (bytes : List ℕ) (n : ℕ) → eqb (byte bytes 1) n ≡ false → (x : Read) (p : Port) (r : Request) → readEnds x bytes n p r ≡ false
+other-device bytes n e (reading.refused number) p r = refl
+other-device bytes n e (reading.hidpp x) p r = simp e
+other-device bytes n e (reading.dj x) p r = simp e
+other-device bytes n e (reading.emptyList x) p r = refl
+
+module _ (d : Demands) where
+  -- the station that a call hands back is the rules' next one
+  next-station : (st : Station) (c : Call) (o : Outcome) → Ensured st c o → o .station ≡ step st c .station
+  next-station st c o e = ap (λ (x : Outcome). x .station) (d .answers st c o e)
+
+  -- LEDs of device 7 are refused with 5, whatever else is wrong with the call
+  no-device-7 : (st : Station) → AllPlaced st → (leds offset : ℕ) (lent : List ℕ) (r : Written) (after : List ℕ) → Ensured st (write (led 7 leds) offset lent) (writeStep st (writtenOutcome r after)) → RefusedWith (written (writtenOf r)) 5
+  no-device-7 st placed leds offset lent r after e =
+      d .refuses st placed (write (led 7 leds) offset lent) (writeStep st (writtenOutcome r after)) e 5 .1 (led5 refl)
+
+  -- and a number that is answered has its row
+  has-row : (st : Station) → AllPlaced st → (c : Call) (o : Outcome) → Ensured st c o → (number : ℕ) → RefusedWith (o .answer) number → Row st c number
+  has-row st placed c o e number = d .refuses st placed c o e number .0
+
+  -- a refused request leaves the station, and the buffer
+  module _ (st : Station) (device byte2 byte3 ticks : ℕ) (params : List ℕ) (offset : ℕ) (lent : List ℕ) (r : RequestResult) (after : List ℕ) (e : Ensured st (request device byte2 byte3 ticks params offset lent) (requestStep params (requestOutcome r after))) (q : isRefusal (written (writtenOf (r .answer))) ≡ true) where
+    refused-station : r .station ≡ st
+    refused-station = d .station-kept st _ _ e q
+
+    refused-buffer : after ≡ lent
+    refused-buffer = d .bytes-kept st _ _ e q .1
+
+  -- C reads a report of any length
+  c-reads : (κ : List ℕ) (bytes : RefT (List ℕ)) (r : Report) → read-reads.Learnt (κ, tt) (bytes, tt) r (bytes, tt) → r ≡ cReport (readRule (now bytes))
+  c-reads = d .without-station .read
+
+  module _ (st : Station) (k : Reached st) (bytes : List ℕ) (r : TakeResult) (e : Ensured st (take bytes) (takeStep bytes (takeOutcome r))) where
+    -- where one waits its reply completes it, and only there
+    reply-completes : Replies st bytes → isReply (takenOf (r .answer)) ≡ true
+    reply-completes = d .replies st k bytes r e .1
+
+    reply-only : isReply (takenOf (r .answer)) ≡ true → Replies st bytes
+    reply-only = d .replies st k bytes r e .0
+
+    error-completes : Fails st bytes → isFailure (takenOf (r .answer)) ≡ true
+    error-completes = d .errors st k bytes r e .1
+
+    error-only : isFailure (takenOf (r .answer)) ≡ true → Fails st bytes
+    error-only = d .errors st k bytes r e .0
+
+    -- the coast that was lost: what pad 3 sends leaves every request of pad 2 as it was
+    pad-3-for-pad-2 : byte bytes 1 ≡ 3 → (place : ℕ) → requestIn (view 2 (r .station) .places) place ≡ requestIn (view 2 st .places) place
+    pad-3-for-pad-2 q place =
+        d .ends st k bytes r e 2 refl place ∙ ap (λ (b : Bool). cond b emptyPlace (requestIn (view 2 st .places) place)) (other-device bytes 2 (ap (λ (n : ℕ). eqb n 2) q) (readRule bytes) (view 2 st) (requestIn (view 2 st .places) place))
+
+    -- a HID++ report completes one request at most, on one port
+    one-at-most : isHidppRead (readRule bytes) ≡ true → (n m i j : ℕ) → isPort n ≡ true → isPort m ≡ true → endsIn st bytes n i ≡ true → endsIn st bytes m j ≡ true → (n ≡ m) × (i ≡ j)
+    one-at-most = d .at-most-one st k bytes
+
+  -- a cancel leaves every battery
+  cancel-keeps-batteries : (st : Station) → Reached st → (device byte2 byte3 : ℕ) (r : CancelResult) → Ensured st (cancel device byte2 byte3) (cancelStep (cancelOutcome r)) → (n : ℕ) → isPort n ≡ true → view n (r .station) .battery ≡ view n st .battery
+  cancel-keeps-batteries st k device byte2 byte3 r e n h =
+      d .changes st k (cancel device byte2 byte3) (cancelStep (cancelOutcome r)) e n h battery (go (eqb device n))
+    where
+      go : (b : Bool) → b && false ≡ false
+      go true = refl
+      go false = refl
+
+  -- what a tick says of a port is what it ended there: what waited waits or is counted
+  tick-counts : (st : Station) → Reached st → (r : TickResult) → Ensured st tick (tickStep (tickOutcome r)) → (n : ℕ) → isPort n ≡ true → waitingOn (view n (r .station)) + endedOn n (endingOf tick (ticked (r .ended))) ≡ waitingOn (view n st) + 0
+  tick-counts st k r e n h = d .counts st k tick (tickStep (tickOutcome r)) e n h .balance
+
+  -- the program's new station is where a history begins, and the invariant holds wherever it ends
+  new-begins : (r : Station) → new-reads.Learnt tt tt r tt → Start r
+  new-begins = d .begins
+
+  invariant-holds : (st : Station) → Start st → (ms : List Made) → History st ms → Reached (last st ms)
+  invariant-holds = d .reached
+
+  module _ (st : Station) (begins : Start st) (ms ns : List Made) (k : History st ms) (l : History st ns) where
+    -- two histories with the same calls give the same answers and lent bytes, and the same station
+    same-answers : map callOf ms ≡ map callOf ns → made st ms ≡ made st ns
+    same-answers e =
+        d .every-answer st begins ms k ∙ ap (transcript st) e ∙ sym (d .every-answer st begins ns l)
+
+    same-end : map callOf ms ≡ map callOf ns → last st ms ≡ last st ns
+    same-end e = d .final-station st begins ms k ∙ ap (run st) e ∙ sym (d .final-station st begins ns l)
+
+    -- device 2 by itself: what it holds, and what its calls return
+    device-2-holds : map callOf ns ≡ callsOf (remaining 2 (made st ms)) → view 2 (last st ms) ≡ view 2 (last st ns)
+    device-2-holds = d .holds 2 refl st begins ms ns k l
+
+    device-2-returns : map callOf ns ≡ callsOf (remaining 2 (made st ms)) → compared 2 (remaining 2 (made st ms)) ≡ compared 2 (made st ns)
+    device-2-returns = d .returns 2 refl st begins ms ns k l
+
+    any-order : ((n : ℕ) → isPort n ≡ true → callsOf (remaining n (made st ms)) ≡ callsOf (remaining n (made st ns))) → last st ms ≡ last st ns
+    any-order = d .orders st begins ms ns k l
+
+    -- what device 2 was asked has come to an end that an answer told, or waits
+    device-2-accounted : begunIn 2 (made st ms) ≡ endedIn byReply 2 (made st ms) + (endedIn byError 2 (made st ms) + (endedIn byExpiry 2 (made st ms) + (endedIn byCancel 2 (made st ms) + (endedIn byDrop 2 (made st ms) + waitingOn (view 2 (last st ms))))))
+    device-2-accounted = d .accounted 2 refl st begins ms k
+
+  -- a radio report is for the device that it names
+  radio-named : (st : Station) (bytes : List ℕ) (r : TakeResult) → Ensured st (take bytes) (takeStep bytes (takeOutcome r)) → (kind start size : ℕ) → takenOf (r .answer) ≡ answers.radio kind start size → labelOf st (take bytes) ≡ one (byte bytes 1)
+  radio-named st bytes r e kind start size q =
+      d .struck st (take bytes) (takeStep bytes (takeOutcome r)) e ∙ ap (λ (a : answers.Answer). sentence (take bytes) (taken a)) q
+
+  -- what is compared of a call for one port is its answer and every lent byte; of a tick the port's count
+  compared-whole : (o q : Outcome) → comparedOf 2 (one 2) (returned o) ≡ comparedOf 2 (one 2) (returned q) → (o .answer ≡ q .answer) × ((o .read ≡ q .read) × (o .lent ≡ q .lent))
+  compared-whole = d .compares-all 2 2
+
+  compared-count : (o q : Outcome) (xs ys : List ℕ) → o .answer ≡ ticked xs → q .answer ≡ ticked ys → comparedOf 255 all (returned o) ≡ comparedOf 255 all (returned q) → getD xs 6 0 ≡ getD ys 6 0
+  unfolding positionOf
+  compared-count = d .compares-count 255
+
+  -- the last call of a history was made on the station that the others left
+  last-made : (st : Station) (ms : List Made) (m : Made) → History st (ms ++ (m ∷ [])) → Ensured (last st ms) (m .call) (m .outcome)
+  unfolding History
+  last-made st ms m k = d .cut st ms (m ∷ []) k .1 .0
+
+  -- encoded calls end with the station of the rules' run, and their rows are its answers
+  module _ (κ κ′ κ″ : List ℕ) (st : Station) (encoded arena arenaAfter answers answersAfter : RefT (List ℕ)) (r : RunResult) (e : run-reads.Learnt (κ, (κ′, (κ″, tt))) (st, (encoded, (arena, (answers, tt)))) r (st, (encoded, (arenaAfter, (answersAfter, tt))))) (cs : List Call) (decoded : decode (now encoded) (now arena) ≡ calls cs) (room : rowsSize cs ≤ length (now answers)) where
+    run-ends : r .station ≡ run st cs
+    unfolding ran
+    run-ends = ap (λ (o : EncodedOutcome). o .station) (d .runs κ κ′ κ″ st encoded arena arenaAfter answers answersAfter r e cs decoded room)
+
+    rows-are-answers : length (st .ports) ≡ portCount → Bytes (now encoded) → Bytes (now arena) → ReadsBack st cs (now answersAfter)
+    rows-are-answers seven =
+        d .rows κ κ′ κ″ st encoded arena arenaAfter answers answersAfter r e seven cs decoded room
+
+-- on a station that calls reach no request waits whose byte 2 no request may have
+no-request-84 : (st : Station) → Reached st → (byte3 position place : ℕ) → position < portCount → matches 0x84 byte3 (requestIn (portAt st position .places) place) ≡ false
+no-request-84 st k byte3 position place h = go (matches 0x84 byte3 r) refl
+  where
+    r : Request
+    r = requestIn (portAt st position .places) place
+
+    go : (b : Bool) → matches 0x84 byte3 (requestIn (portAt st position .places) place) ≡ b → b ≡ false
+    go true e =
+        let waits = both (not (isEmpty r)) (eqb (r .byte2 .0) 0x84 && eqb (r .byte3) byte3) e in
+        let is84 = eqb-true (r .byte2 .0) 0x84 (both (eqb (r .byte2 .0) 0x84) (eqb (r .byte3) byte3) (waits .1) .0) in
+        absurd (false≢true (sym (ap isAskable is84) ∙ k .each position h .waiting .each place .askable (not-true (isEmpty r) (waits .0))))
+    go false e = refl

@@ -1,0 +1,94 @@
+-- The three demands: the proof.
+use Prim.Native.Nat.{ℕ}
+use mathlib.Core.Path.{_≡_, sym, _∙_, ap, subst}
+use mathlib.Core.Bool.{true}
+use mathlib.Core.List.{List, map}
+use denote.Ref.{now}
+use Rattle.port.specs.Answers.{Answer}
+use Rattle.port.specs.PortContracts.{takenOf}
+use Rattle.station.specs.declared.Station.{Station}
+use Rattle.station.specs.declared.TakeResult.{TakeResult}
+use Rattle.station.specs.StationContracts.{takeOutcome}
+use Rattle.station.specs.StationTaking.{takeRule}
+use Rattle.sequence.specs.Starts.{Start, fresh}
+use Rattle.sequence.specs.Steps as steps
+use Rattle.sequence.specs.Steps.{Call, take, Outcome, takeStep, step, run}
+use Rattle.sequence.specs.Refused.{isRefusal, Unchanged}
+use Rattle.sequence.specs.Sentence.{sentence}
+use Rattle.sequence.specs.SentenceLaws.{by-answer}
+use Rattle.sequence.specs.Transcripts.{Entry, transcript}
+use Rattle.sequence.specs.Remaining.{view}
+use Rattle.sequence.specs.Histories.{Ensured, Made, callOf, last, made}
+use Rattle.sequence.specs.HistoriesLaws as histories
+use Rattle.sequence.specs.ComparisonLaws.{comparison}
+use Rattle.reach.specs.Sound.{Reached}
+use Rattle.reach.specs.RefusalTable.{ByTheTable}
+use Rattle.reach.specs.Completion.{Completion}
+use Rattle.reach.specs.Ends.{EndsAt, Accounted}
+use Rattle.reach.specs.Fields.{ChangesListed}
+use Rattle.reach.specs.CompleteLaws.{complete}
+use Rattle.encoded.specs.Demand3Laws.{demand3}
+use Rattle.demands.specs.WithoutStation.{WithoutStation}
+use Rattle.demands.specs.Demands.{Demands}
+
+stateless : WithoutStation
+stateless =
+    record {
+      read = λ κ bytes r e. e;
+      request = λ κ κ′ device byte2 byte3 params buffer after offset r e. e;
+      switch = λ κ bits timeout buffer after offset r e. e;
+      getPaired = λ κ buffer after offset r e. e;
+      led = λ κ device leds buffer after offset r e. e;
+      mouse = λ κ payload r e. e;
+    }
+
+-- what a call gave is the rules' step, and so has what every step has
+by-step : (P : Outcome → Type 0) {st : Station} {c : Call} {o : Outcome} → Ensured st c o → P (step st c) → P o
+by-step P e h = subst P (sym (histories.met e)) h
+
+refused-keeps : (st : Station) (c : Call) (o : Outcome) → Ensured st c o → isRefusal (o .answer) ≡ true → Unchanged st c o
+refused-keeps st c o e = by-step (λ o. isRefusal (o .answer) ≡ true → Unchanged st c o) e (complete .refused st c)
+
+same-taken : {a b : Answer} → steps.taken a ≡ steps.taken b → a ≡ b
+same-taken e = cc
+
+-- a take by its contract
+taken : (st : Station) → Reached st → (bytes : List ℕ) (r : TakeResult) → Ensured st (take bytes) (takeStep bytes (takeOutcome r)) → Completion st bytes (takenOf (r .answer)) (r .station)
+unfolding step
+taken st k bytes r e =
+    let m = histories.met e in
+    subst (λ (a : Answer). Completion st bytes a (r .station)) (sym (same-taken (ap (λ (o : Outcome). o .answer) m))) (subst (Completion st bytes (takeRule st bytes .answer)) (sym (ap (λ (o : Outcome). o .station) m)) (complete .completes st k bytes))
+
+pub demands : Demands
+demands =
+    record {
+      answers = λ st c o e. histories.met e;
+      refuses = λ st placed c o e. by-step (λ o. ByTheTable st c (o .answer)) e (complete .refusals st placed c);
+      station-kept = λ st c o e r. refused-keeps st c o e r .station;
+      bytes-kept = λ st c o e r. let h = refused-keeps st c o e r in (h .read, h .lent);
+      without-station = stateless;
+      replies = λ st k bytes r e. taken st k bytes r e .replies;
+      errors = λ st k bytes r e. taken st k bytes r e .fails;
+      ends = λ st k bytes r e. taken st k bytes r e .ends;
+      at-most-one = λ st k bytes. complete .completes st k bytes .one;
+      changes = λ st k c o e n h. by-step (λ o. ChangesListed n c (o .answer) (view n st) (view n (o .station))) e (complete .changes st k c n h);
+      counts = λ st k c o e n h. by-step (λ o. EndsAt n c (o .answer) (view n st) (view n (o .station))) e (complete .ends st k c n h);
+      begins = λ r e. subst Start (sym e) fresh;
+      reached = λ st begins ms k. subst Reached (sym (histories.history st ms k .station)) (complete .reached st begins (map callOf ms));
+      every-answer = λ st begins ms k. histories.history st ms k .entries;
+      final-station = λ st begins ms k. histories.history st ms k .station;
+      struck = λ st c o e. by-answer st c ∙ ap (λ (x : Outcome). sentence c (x .answer)) (sym (histories.met e));
+      holds = λ n h st begins ms ns k l e. histories.alone n h st begins ms ns k l e .holds;
+      returns = λ n h st begins ms ns k l e. histories.alone n h st begins ms ns k l e .returns;
+      compares-all = comparison .whole;
+      compares-count = comparison .count;
+      orders = histories.orders;
+      cut = histories.cut;
+      accounted = λ n h st begins ms k. let r = histories.history st ms k in accounted-so n st ms (r .entries) (r .station) (complete .accounted n h st begins (map callOf ms));
+      runs = λ κ κ′ κ″ st encoded arena arenaAfter answers answersAfter r e. demand3 .run-encoded st (now encoded) (now arena) (now answers) r (now arenaAfter) (now answersAfter) e;
+      rows = λ κ κ′ κ″ st encoded arena arenaAfter answers answersAfter r e seven. demand3 .program-rows st seven (now encoded) (now arena) (now answers) r (now arenaAfter) (now answersAfter) e;
+    }
+  where
+    accounted-so : (n : ℕ) (st : Station) (ms : List Made) → made st ms ≡ transcript st (map callOf ms) → last st ms ≡ run st (map callOf ms) → Accounted n (transcript st (map callOf ms)) (view n (run st (map callOf ms))) → Accounted n (made st ms) (view n (last st ms))
+    accounted-so n st ms e f h =
+        subst (λ (es : List Entry). Accounted n es (view n (last st ms))) (sym e) (subst (λ (x : Station). Accounted n (transcript st (map callOf ms)) (view n x)) (sym f) h)

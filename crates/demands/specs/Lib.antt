@@ -1,0 +1,4 @@
+pub mod WithoutStation
+pub mod Demands
+pub mod DemandsLaws
+pub mod DemandsExamples

@@ -1,0 +1,72 @@
+-- Document 01, "Refusal numbers": the table, row by row. A call is refused with a number exactly when its row holds and, within the call, no row above it does.
+use Prim.Native.Nat.{ℕ, _<_}
+use mathlib.Core.Path.{_≡_}
+use mathlib.Core.Logic.{_↔_}
+use mathlib.Core.Bool.{true, false}
+use mathlib.Core.List.{List}
+use lib.ListN.{length}
+use Rattle.report.specs.Ports.{isDevice, isPort}
+use Rattle.report.specs.Sizes.{byte, isHidpp, isReportId, lengthOf, djStart}
+use Rattle.report.specs.Reading as reading
+use Rattle.report.specs.Reading.{isReserved, goesDown, isEmptyList, hasPort, reportFrom, readRule}
+use Rattle.frame.specs.Writing as writing
+use Rattle.frame.specs.Writing.{fitsAt, hasReservedBits}
+use Rattle.port.specs.Answers as answers
+use Rattle.port.specs.Waiting as waiting
+use Rattle.listing.specs.Listing.{listing}
+use Rattle.station.specs.declared.Station.{Station}
+use Rattle.sequence.specs.Steps.{switch, getPaired, led, list, Call, take, request, cancel, write, CallAnswer, taken, written, cancelled}
+use Rattle.sequence.specs.Remaining.{view}
+use Rattle.reach.specs.CallCases.{Waits, DjRefused, RequestRefused}
+
+-- a report of one of the four ids and of its length
+pub record Sized (bytes : List ℕ) : Type 0 where
+  pub some : 0 < length bytes
+  pub known : isReportId (byte bytes 0) ≡ true
+  pub whole : length bytes ≡ lengthOf (byte bytes 0)
+
+-- by the bytes alone
+pub data ReadRefused (bytes : List ℕ) : ℕ → Type 0 where
+  is1 : length bytes ≡ 0 → ReadRefused bytes 1
+  is2 : 0 < length bytes → isReportId (byte bytes 0) ≡ false → ReadRefused bytes 2
+  is3 : 0 < length bytes → isReportId (byte bytes 0) ≡ true → ¬ (length bytes ≡ lengthOf (byte bytes 0)) → ReadRefused bytes 3
+  is4 : Sized bytes → isHidpp (byte bytes 0) ≡ false → goesDown (byte bytes 2) ≡ true → ReadRefused bytes 4
+  hidpp5 : Sized bytes → isHidpp (byte bytes 0) ≡ true → isPort (byte bytes 1) ≡ false → ReadRefused bytes 5
+  dj5 : Sized bytes → isHidpp (byte bytes 0) ≡ false → goesDown (byte bytes 2) ≡ false → isEmptyList (byte bytes 2) (byte bytes 3) ≡ false → hasPort (byte bytes 1) (byte bytes 2) ≡ false → ReadRefused bytes 5
+  is6 : Sized bytes → isHidpp (byte bytes 0) ≡ true → isPort (byte bytes 1) ≡ true → isReserved (byte bytes 2) ≡ true → ReadRefused bytes 6
+
+-- the whole frame does not fit between the offset and the buffer's end
+abbrev pub Short : ℕ → ℕ → List ℕ → Type 0
+Short size offset lent = fitsAt size offset (length lent) ≡ false
+
+-- the rows that hold
+pub data Row (st : Station) : Call → ℕ → Type 0 where
+  -- take: 1 to 6 by the bytes; 7 and 8 at the port
+  byBytes : {bytes : List ℕ} {number : ℕ} → ReadRefused bytes number → Row st (take bytes) number
+  byPort : {bytes : List ℕ} {number : ℕ} → readRule bytes ≡ reading.dj (reportFrom djStart bytes) → DjRefused (view (byte bytes 1) st) (reportFrom djStart bytes) bytes number → Row st (take bytes) number
+  -- request: 5; 9, 10, 11, 12 at the port
+  request5 : {device byte2 byte3 ticks : ℕ} {params : List ℕ} {offset : ℕ} {lent : List ℕ} → isPort device ≡ false → Row st (request device byte2 byte3 ticks params offset lent) 5
+  requestAt : {device byte2 byte3 ticks : ℕ} {params : List ℕ} {offset : ℕ} {lent : List ℕ} {number : ℕ} → isPort device ≡ true → RequestRefused (view device st) device byte2 byte3 ticks params offset lent number → Row st (request device byte2 byte3 ticks params offset lent) number
+  -- cancel: 5, 13
+  cancel5 : {device byte2 byte3 : ℕ} → isPort device ≡ false → Row st (cancel device byte2 byte3) 5
+  cancel13 : {device byte2 byte3 : ℕ} → isPort device ≡ true → ¬ Waits (view device st) byte2 byte3 → Row st (cancel device byte2 byte3) 13
+  -- switch: 14, 10
+  switch14 : {bits timeout offset : ℕ} {lent : List ℕ} → hasReservedBits bits ≡ true → Row st (write (switch bits timeout) offset lent) 14
+  switch10 : {bits timeout offset : ℕ} {lent : List ℕ} → hasReservedBits bits ≡ false → Short 15 offset lent → Row st (write (switch bits timeout) offset lent) 10
+  -- get paired: 10
+  getPaired10 : {offset : ℕ} {lent : List ℕ} → Short 15 offset lent → Row st (write getPaired offset lent) 10
+  -- LED: 5, 10
+  led5 : {device leds offset : ℕ} {lent : List ℕ} → isDevice device ≡ false → Row st (write (led device leds) offset lent) 5
+  led10 : {device leds offset : ℕ} {lent : List ℕ} → isDevice device ≡ true → Short 15 offset lent → Row st (write (led device leds) offset lent) 10
+  -- the listing: 10
+  list10 : {offset : ℕ} {lent : List ℕ} → Short (length (listing (st .ports))) offset lent → Row st (write list offset lent) 10
+
+-- the answer is this refusal
+pub data RefusedWith : CallAnswer → ℕ → Type 0 where
+  takeWith : {number : ℕ} → RefusedWith (taken (answers.refused number)) number
+  writeWith : {number : ℕ} → RefusedWith (written (writing.refused number)) number
+  cancelWith : {number : ℕ} → RefusedWith (cancelled (waiting.CancelAnswer.refused number)) number
+
+-- for every call and number
+abbrev pub ByTheTable : Station → Call → CallAnswer → Type 0
+ByTheTable st c answer = (number : ℕ) → RefusedWith answer number ↔ Row st c number

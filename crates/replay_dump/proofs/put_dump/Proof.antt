@@ -1,0 +1,16 @@
+-- `replay_dump::put_dump` meets its contract.
+use borrow.Author.Needs.{needs}
+use Rattle.text.specs.PuttingLaws.{put-with-room, put-without-room}
+use Rattle.replay_dump.proofs.put_dump.Statement.{statement}
+use Rattle.replay_dump.proofs.put_dump.Tie as tie
+
+returns : tie.Need-returns
+returns c = put-with-room (c .before .before .put-ports .ensures) (c .before .before .before .before .before .fits2 .ensures) (c .before .before .before .before .if1 .taken)
+
+returns-2 : tie.Need-returns-2
+returns-2 c = put-without-room _ _ _ _ (c .before .fits2 .ensures) (c .if1 .left)
+
+pub put-dump-spec : {M : Type 1} → statement M
+put-dump-spec =
+    tie.close
+    (tie.spec (λ c κs. search needs) (λ c κs. search needs) (λ c. search needs) returns returns-2)
