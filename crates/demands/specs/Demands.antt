@@ -21,11 +21,12 @@ use Rattle.sequence.specs.Targets.{one, all}
 use Rattle.sequence.specs.Sentence.{sentence}
 use Rattle.sequence.specs.Refused.{isRefusal}
 use Rattle.sequence.specs.Transcripts.{callsOf, transcript}
-use Rattle.sequence.specs.Remaining.{view, remaining, comparedOf, compared}
+use Rattle.sequence.specs.Remaining.{portFor, view, remaining, comparedOf, compared}
 use Rattle.sequence.specs.Histories.{Ensured, Made, callOf, History, last, made}
 use Rattle.reach.specs.Sound.{Reached}
 use Rattle.reach.specs.CallCases.{AllPlaced}
 use Rattle.reach.specs.RefusalTable.{ByTheTable}
+use Rattle.reach.specs.Complete.{Complete}
 use Rattle.reach.specs.Completion.{isReply, isFailure, isHidppRead, Replies, Fails, endsIn}
 use Rattle.reach.specs.Ends.{EndsAt, Accounted}
 use Rattle.reach.specs.Fields.{ChangesListed}
@@ -34,13 +35,14 @@ use Rattle.encoded.specs.Decoding.{calls, decode}
 use Rattle.encoded.specs.Encoding.{Bytes}
 use Rattle.encoded.specs.EncodedRuns.{rowsSize, ran, ReadsBack}
 use Rattle.encoded.specs.EncodedContracts.{outcomeOf}
+use Rattle.encoded.specs.Demand3.{Demand3}
 use Rattle.encoded.proofs.run_encoded.Reads as run-reads
 use Rattle.demands.specs.WithoutStation.{WithoutStation}
 
 pub record Demands : Type 0 where
-  -- Demand 1. Any bytes, any length, any order of calls: every call ends with an answer, and its outcome is the one that the rules give
+  -- Demand 1. Any bytes, any length, any order of calls: every call ends with an answer. That its function returns is what the prover checks of every function; its outcome is the one that the rules give, on any station
   pub answers : (st : Station) (c : Call) (o : Outcome) → Ensured st c o → o ≡ step st c
-  -- Each call refuses bad input itself: with each number exactly when that number's row of the table holds
+  -- Each call refuses bad input itself: with each number exactly when that number's row of the table holds, on any station whose ports have their four places, as the program's type has it
   pub refuses : (st : Station) → AllPlaced st → (c : Call) (o : Outcome) → Ensured st c o → ByTheTable st c (o .answer)
   -- A refused call leaves the station, the bytes lent to be read and the buffer lent to be written as they were
   pub station-kept : (st : Station) (c : Call) (o : Outcome) → Ensured st c o → isRefusal (o .answer) ≡ true → o .station ≡ st
@@ -52,18 +54,18 @@ pub record Demands : Type 0 where
   -- An error, exactly when one waits there with the two bytes that the error names, and its kind fits that request
   pub errors : (st : Station) → Reached st → (bytes : List ℕ) (r : TakeResult) → Ensured st (take bytes) (takeStep bytes (takeOutcome r)) → (isFailure (takenOf (r .answer)) ≡ true) ↔ Fails st bytes
   -- Each ends that one and no other: of every port, the place of the request that it answers is emptied, and every other place stays. DJ reports complete none, and drop all of a port's requests exactly at 0x40, and at 0x41 with another WPID or for a device that is not paired
-  pub ends : (st : Station) → Reached st → (bytes : List ℕ) (r : TakeResult) → Ensured st (take bytes) (takeStep bytes (takeOutcome r)) → (n : ℕ) → isPort n ≡ true → (place : ℕ) → requestIn (view n (r .station) .places) place ≡ cond (endsIn st bytes n place) emptyPlace (requestIn (view n st .places) place)
+  pub ends : (st : Station) → Reached st → (bytes : List ℕ) (r : TakeResult) → Ensured st (take bytes) (takeStep bytes (takeOutcome r)) → (n : ℕ) → isPort n ≡ true → (place : ℕ) → requestIn (portFor (r .station) n .places) place ≡ cond (endsIn st bytes n place) emptyPlace (requestIn (portFor st n .places) place)
   pub at-most-one : (st : Station) → Reached st → (bytes : List ℕ) → isHidppRead (readRule bytes) ≡ true → (n m i j : ℕ) → isPort n ≡ true → isPort m ≡ true → endsIn st bytes n i ≡ true → endsIn st bytes m j ≡ true → (n ≡ m) × (i ≡ j)
   -- Records change only as document 01 lists: of every port, by every call, a field that is not listed stays
-  pub changes : (st : Station) → Reached st → (c : Call) (o : Outcome) → Ensured st c o → (n : ℕ) → isPort n ≡ true → ChangesListed n c (o .answer) (view n st) (view n (o .station))
+  pub changes : (st : Station) → Reached st → (c : Call) (o : Outcome) → Ensured st c o → (n : ℕ) → isPort n ≡ true → ChangesListed n c (o .answer) (portFor st n) (portFor (o .station) n)
   -- Each count is that of places emptied: what becomes of every place of every port by every call, and the counts for each way in which a request ends
-  pub counts : (st : Station) → Reached st → (c : Call) (o : Outcome) → Ensured st c o → (n : ℕ) → isPort n ≡ true → EndsAt n c (o .answer) (view n st) (view n (o .station))
+  pub counts : (st : Station) → Reached st → (c : Call) (o : Outcome) → Ensured st c o → (n : ℕ) → isPort n ≡ true → EndsAt n c (o .answer) (portFor st n) (portFor (o .station) n)
   -- Demand 3, for every history: calls that the program made, in any order, with any arguments and any lent bytes, refused ones included; the first on a start, which a new station is, each later one on the station that the call before it handed back or left
   pub begins : (r : Station) → new-reads.Learnt tt tt r tt → Start r
   pub reached : (st : Station) → Start st → (ms : List Made) → History st ms → Reached (last st ms)
   -- Every answer and the lent bytes after every call are those that the rules give, and so is the station at the end
-  pub every-answer : (st : Station) → Start st → (ms : List Made) → History st ms → made st ms ≡ transcript st (map callOf ms)
-  pub final-station : (st : Station) → Start st → (ms : List Made) → History st ms → last st ms ≡ run st (map callOf ms)
+  pub every-answer : (st : Station) (ms : List Made) → History st ms → made st ms ≡ transcript st (map callOf ms)
+  pub final-station : (st : Station) (ms : List Made) → History st ms → last st ms ≡ run st (map callOf ms)
   -- For each port, strike out every call for another port or for none, and keep the ticks: which calls these are, document 01 says by the answer
   pub struck : (st : Station) (c : Call) (o : Outcome) → Ensured st c o → labelOf st c ≡ sentence c (o .answer)
   -- What remains, run from the same start: at its end the port holds exactly what it holds after the full run
@@ -77,7 +79,10 @@ pub record Demands : Type 0 where
   -- A history may be cut anywhere: its second part is a history from where the first one ends
   pub cut : (st : Station) (ms ns : List Made) → History st (ms ++ ns) → History st ms × History (last st ms) ns
   -- Over every history and for each port: requests accepted are those answered by reply, by error, expired, cancelled, dropped, and those that wait, counted from the answers given
-  pub accounted : (n : ℕ) → isPort n ≡ true → (st : Station) → Start st → (ms : List Made) → History st ms → Accounted n (made st ms) (view n (last st ms))
+  pub accounted : (n : ℕ) → isPort n ≡ true → (st : Station) → Start st → (ms : List Made) → History st ms → Accounted n (made st ms) (portFor (last st ms) n)
   -- A run of encoded calls by the program, `encoded::run_encoded`: where the bytes are calls and there is room for their answers, the final station, every lent byte and every row are those of the rules' run; and the rows read back as the answers
   pub runs : (κ κ′ κ″ : List ℕ) (st : Station) (encoded arena arenaAfter answers answersAfter : RefT (List ℕ)) (r : RunResult) → run-reads.Learnt (κ, (κ′, (κ″, tt))) (st, (encoded, (arena, (answers, tt)))) r (st, (encoded, (arenaAfter, (answersAfter, tt)))) → (cs : List Call) → decode (now encoded) (now arena) ≡ calls cs → rowsSize cs ≤ length (now answers) → outcomeOf r (now arenaAfter) (now answersAfter) ≡ ran st cs (now answers)
   pub rows : (κ κ′ κ″ : List ℕ) (st : Station) (encoded arena arenaAfter answers answersAfter : RefT (List ℕ)) (r : RunResult) → run-reads.Learnt (κ, (κ′, (κ″, tt))) (st, (encoded, (arena, (answers, tt)))) r (st, (encoded, (arenaAfter, (answersAfter, tt)))) → length (st .ports) ≡ portCount → (cs : List Call) → decode (now encoded) (now arena) ≡ calls cs → rowsSize cs ≤ length (now answers) → Bytes (now encoded) → Bytes (now arena) → ReadsBack st cs (now answersAfter)
+  -- What is gathered of the rules alone, of every station and of every list of calls: their cases, their refusals, what they end and change; and each port by itself, any two orders, and which calls have an encoding
+  pub of-the-rules : Complete
+  pub of-runs : Demand3

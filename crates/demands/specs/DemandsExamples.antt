@@ -1,36 +1,41 @@
 -- What a console's author reads off the demands: each field of the statement is used here, in other words, so that none of them can say less.
-use Prim.Native.Nat.{ℕ, _+_, _≤_, _<_}
+use Prim.Native.Nat.{ℕ, _+_, _≤_}
 use mathlib.Core.Path.{_≡_, refl, sym, _∙_, ap}
-use mathlib.Core.Bool.{Bool, true, false, cond, not, _&&_, false≢true}
+use mathlib.Core.Bool.{Bool, true, false, cond, _&&_}
 use mathlib.Core.List.{List, [], _∷_, _++_, map}
 use lib.ListN.{length, getD}
 use lib.Dec.{eqb}
-use borrow.Author.Tests.{eqb-true, not-true}
-use Rattle.report.specs.ChoicesLaws.{both}
 use denote.Ref.{RefT, now}
 use Rattle.report.specs.Ports.{isPort}
 use Rattle.report.specs.Sizes.{byte}
 use Rattle.report.specs.Reading as reading
 use Rattle.report.specs.Reading.{Read, readRule}
-use Rattle.frame.specs.Forbidden.{isAskable}
+use Rattle.frame.specs.Writing.{requestFrameRule, switchRule, getPairedRule, ledRule}
+use Rattle.mouse.specs.Movement.{mouseRule}
 use Rattle.frame.specs.declared.Written.{Written}
 use Rattle.frame.specs.FrameContracts.{writtenOf, writtenOutcome}
 use Rattle.port.specs.declared.Port.{Port}
 use Rattle.port.specs.declared.Request.{Request}
 use Rattle.port.specs.Records.{emptyPlace, requestIn}
-use Rattle.port.specs.Places.{isEmpty, matches}
 use Rattle.port.specs.Answers as answers
 use Rattle.port.specs.PortContracts.{takenOf}
 use Rattle.blotterfinch.specs.declared.Report.{Report}
-use Rattle.blotterfinch.specs.CContracts.{cReport}
+use Rattle.blotterfinch.specs.declared.Written as c
+use Rattle.blotterfinch.specs.declared.Movement.{Movement}
+use Rattle.blotterfinch.specs.CContracts.{cReport, cOutcome, cEnded, cMovement}
 use Rattle.blotterfinch.proofs.blotterfinch_read.Reads as read-reads
+use Rattle.blotterfinch.proofs.blotterfinch_request_frame.Reads as request-reads
+use Rattle.blotterfinch.proofs.blotterfinch_switch_frame.Reads as switch-reads
+use Rattle.blotterfinch.proofs.blotterfinch_get_paired_frame.Reads as get-paired-reads
+use Rattle.blotterfinch.proofs.blotterfinch_led_frame.Reads as led-reads
+use Rattle.blotterfinch.proofs.blotterfinch_mouse.Reads as mouse-reads
 use Rattle.station.specs.declared.Station.{Station}
 use Rattle.station.specs.declared.TakeResult.{TakeResult}
 use Rattle.station.specs.declared.RequestResult.{RequestResult}
 use Rattle.station.specs.declared.CancelResult.{CancelResult}
 use Rattle.station.specs.declared.TickResult.{TickResult}
 use Rattle.station.specs.StationContracts.{takeOutcome, requestOutcome, cancelOutcome, tickOutcome}
-use Rattle.station.specs.Stations.{portCount, positionOf, portAt}
+use Rattle.station.specs.Stations.{portCount, positionOf}
 use Rattle.station.proofs.Station.new.Reads as new-reads
 use Rattle.sequence.specs.Starts.{Start}
 use Rattle.sequence.specs.Steps.{led, Call, take, request, cancel, tick, write, taken, written, ticked, Outcome, takeStep, requestStep, cancelStep, tickStep, writeStep, step, run, returned, labelOf}
@@ -38,13 +43,14 @@ use Rattle.sequence.specs.Targets.{one, all}
 use Rattle.sequence.specs.Sentence.{sentence}
 use Rattle.sequence.specs.Refused.{isRefusal}
 use Rattle.sequence.specs.Transcripts.{callsOf, transcript}
-use Rattle.sequence.specs.Remaining.{view, remaining, comparedOf, compared}
+use Rattle.sequence.specs.Remaining.{portFor, view, remaining, comparedOf, compared}
+use Rattle.sequence.specs.Independence.{Alone}
 use Rattle.sequence.specs.Histories.{Ensured, Made, callOf, History, last, made}
 use Rattle.reach.specs.Sound.{Reached}
-use Rattle.reach.specs.CallCases.{AllPlaced}
+use Rattle.reach.specs.CallCases.{AllPlaced, ByCases}
 use Rattle.reach.specs.RefusalTable.{led5, Row, RefusedWith}
 use Rattle.reach.specs.Completion.{isReply, isFailure, isHidppRead, Replies, Fails, readEnds, endsIn}
-use Rattle.reach.specs.Ends.{byReply, byError, byExpiry, byCancel, byDrop, endingOf, endedOn, waitingOn, endedIn, begunIn}
+use Rattle.reach.specs.Ends.{byReply, byError, byExpiry, byCancel, byDrop, endingOf, endedInAll, waitingOn, endedIn, begunIn}
 use Rattle.reach.specs.Fields.{battery}
 use Rattle.encoded.specs.declared.RunResult.{RunResult}
 use Rattle.encoded.specs.Decoding.{calls, decode}
@@ -82,9 +88,24 @@ module _ (d : Demands) where
     refused-buffer : after ≡ lent
     refused-buffer = d .bytes-kept st _ _ e q .1
 
-  -- C reads a report of any length
+  -- C reads reports and payloads of any length, and writes at any offset
   c-reads : (κ : List ℕ) (bytes : RefT (List ℕ)) (r : Report) → read-reads.Learnt (κ, tt) (bytes, tt) r (bytes, tt) → r ≡ cReport (readRule (now bytes))
   c-reads = d .without-station .read
+
+  c-requests : (κ κ′ : List ℕ) (device byte2 byte3 : ℕ) (params buffer after : RefT (List ℕ)) (offset : ℕ) (r : c.Written) → request-reads.Learnt (κ, (κ′, tt)) (device, (byte2, (byte3, (params, (buffer, (offset, tt)))))) r (device, (byte2, (byte3, (params, (after, (offset, tt)))))) → cEnded r (now after) ≡ cOutcome (requestFrameRule device byte2 byte3 (now params) offset (now buffer))
+  c-requests = d .without-station .request
+
+  c-switches : (κ : List ℕ) (bits timeout : ℕ) (buffer after : RefT (List ℕ)) (offset : ℕ) (r : c.Written) → switch-reads.Learnt (κ, tt) (bits, (timeout, (buffer, (offset, tt)))) r (bits, (timeout, (after, (offset, tt)))) → cEnded r (now after) ≡ cOutcome (switchRule bits timeout offset (now buffer))
+  c-switches = d .without-station .switch
+
+  c-asks-for-pairs : (κ : List ℕ) (buffer after : RefT (List ℕ)) (offset : ℕ) (r : c.Written) → get-paired-reads.Learnt (κ, tt) (buffer, (offset, tt)) r (after, (offset, tt)) → cEnded r (now after) ≡ cOutcome (getPairedRule offset (now buffer))
+  c-asks-for-pairs = d .without-station .getPaired
+
+  c-lights : (κ : List ℕ) (device leds : ℕ) (buffer after : RefT (List ℕ)) (offset : ℕ) (r : c.Written) → led-reads.Learnt (κ, tt) (device, (leds, (buffer, (offset, tt)))) r (device, (leds, (after, (offset, tt)))) → cEnded r (now after) ≡ cOutcome (ledRule device leds offset (now buffer))
+  c-lights = d .without-station .led
+
+  c-moves : (κ : List ℕ) (payload : RefT (List ℕ)) (r : Movement) → mouse-reads.Learnt (κ, tt) (payload, tt) r (payload, tt) → r ≡ cMovement (mouseRule (now payload))
+  c-moves = d .without-station .mouse
 
   module _ (st : Station) (k : Reached st) (bytes : List ℕ) (r : TakeResult) (e : Ensured st (take bytes) (takeStep bytes (takeOutcome r))) where
     -- where one waits its reply completes it, and only there
@@ -100,17 +121,17 @@ module _ (d : Demands) where
     error-only : isFailure (takenOf (r .answer)) ≡ true → Fails st bytes
     error-only = d .errors st k bytes r e .0
 
-    -- the coast that was lost: what pad 3 sends leaves every request of pad 2 as it was
-    pad-3-for-pad-2 : byte bytes 1 ≡ 3 → (place : ℕ) → requestIn (view 2 (r .station) .places) place ≡ requestIn (view 2 st .places) place
-    pad-3-for-pad-2 q place =
-        d .ends st k bytes r e 2 refl place ∙ ap (λ (b : Bool). cond b emptyPlace (requestIn (view 2 st .places) place)) (other-device bytes 2 (ap (λ (n : ℕ). eqb n 2) q) (readRule bytes) (view 2 st) (requestIn (view 2 st .places) place))
+    -- what device 3 sends leaves every request of device 2 as it was
+    device-3-for-device-2 : byte bytes 1 ≡ 3 → (place : ℕ) → requestIn (portFor (r .station) 2 .places) place ≡ requestIn (portFor st 2 .places) place
+    device-3-for-device-2 q place =
+        d .ends st k bytes r e 2 refl place ∙ ap (λ (b : Bool). cond b emptyPlace (requestIn (portFor st 2 .places) place)) (other-device bytes 2 (ap (λ (n : ℕ). eqb n 2) q) (readRule bytes) (portFor st 2) (requestIn (portFor st 2 .places) place))
 
     -- a HID++ report completes one request at most, on one port
     one-at-most : isHidppRead (readRule bytes) ≡ true → (n m i j : ℕ) → isPort n ≡ true → isPort m ≡ true → endsIn st bytes n i ≡ true → endsIn st bytes m j ≡ true → (n ≡ m) × (i ≡ j)
     one-at-most = d .at-most-one st k bytes
 
   -- a cancel leaves every battery
-  cancel-keeps-batteries : (st : Station) → Reached st → (device byte2 byte3 : ℕ) (r : CancelResult) → Ensured st (cancel device byte2 byte3) (cancelStep (cancelOutcome r)) → (n : ℕ) → isPort n ≡ true → view n (r .station) .battery ≡ view n st .battery
+  cancel-keeps-batteries : (st : Station) → Reached st → (device byte2 byte3 : ℕ) (r : CancelResult) → Ensured st (cancel device byte2 byte3) (cancelStep (cancelOutcome r)) → (n : ℕ) → isPort n ≡ true → portFor (r .station) n .battery ≡ portFor st n .battery
   cancel-keeps-batteries st k device byte2 byte3 r e n h =
       d .changes st k (cancel device byte2 byte3) (cancelStep (cancelOutcome r)) e n h battery (go (eqb device n))
     where
@@ -119,7 +140,7 @@ module _ (d : Demands) where
       go false = refl
 
   -- what a tick says of a port is what it ended there: what waited waits or is counted
-  tick-counts : (st : Station) → Reached st → (r : TickResult) → Ensured st tick (tickStep (tickOutcome r)) → (n : ℕ) → isPort n ≡ true → waitingOn (view n (r .station)) + endedOn n (endingOf tick (ticked (r .ended))) ≡ waitingOn (view n st) + 0
+  tick-counts : (st : Station) → Reached st → (r : TickResult) → Ensured st tick (tickStep (tickOutcome r)) → (n : ℕ) → isPort n ≡ true → waitingOn (portFor (r .station) n) + endedInAll n (endingOf tick (ticked (r .ended))) ≡ waitingOn (portFor st n) + 0
   tick-counts st k r e n h = d .counts st k tick (tickStep (tickOutcome r)) e n h .balance
 
   -- the program's new station is where a history begins, and the invariant holds wherever it ends
@@ -133,10 +154,10 @@ module _ (d : Demands) where
     -- two histories with the same calls give the same answers and lent bytes, and the same station
     same-answers : map callOf ms ≡ map callOf ns → made st ms ≡ made st ns
     same-answers e =
-        d .every-answer st begins ms k ∙ ap (transcript st) e ∙ sym (d .every-answer st begins ns l)
+        d .every-answer st ms k ∙ ap (transcript st) e ∙ sym (d .every-answer st ns l)
 
     same-end : map callOf ms ≡ map callOf ns → last st ms ≡ last st ns
-    same-end e = d .final-station st begins ms k ∙ ap (run st) e ∙ sym (d .final-station st begins ns l)
+    same-end e = d .final-station st ms k ∙ ap (run st) e ∙ sym (d .final-station st ns l)
 
     -- device 2 by itself: what it holds, and what its calls return
     device-2-holds : map callOf ns ≡ callsOf (remaining 2 (made st ms)) → view 2 (last st ms) ≡ view 2 (last st ns)
@@ -148,8 +169,8 @@ module _ (d : Demands) where
     any-order : ((n : ℕ) → isPort n ≡ true → callsOf (remaining n (made st ms)) ≡ callsOf (remaining n (made st ns))) → last st ms ≡ last st ns
     any-order = d .orders st begins ms ns k l
 
-    -- what device 2 was asked has come to an end that an answer told, or waits
-    device-2-accounted : begunIn 2 (made st ms) ≡ endedIn byReply 2 (made st ms) + (endedIn byError 2 (made st ms) + (endedIn byExpiry 2 (made st ms) + (endedIn byCancel 2 (made st ms) + (endedIn byDrop 2 (made st ms) + waitingOn (view 2 (last st ms))))))
+    -- every request that device 2 was sent has ended, as an answer said, or waits
+    device-2-accounted : begunIn 2 (made st ms) ≡ endedIn byReply 2 (made st ms) + (endedIn byError 2 (made st ms) + (endedIn byExpiry 2 (made st ms) + (endedIn byCancel 2 (made st ms) + (endedIn byDrop 2 (made st ms) + waitingOn (portFor (last st ms) 2)))))
     device-2-accounted = d .accounted 2 refl st begins ms k
 
   -- a radio report is for the device that it names
@@ -180,16 +201,9 @@ module _ (d : Demands) where
     rows-are-answers seven =
         d .rows κ κ′ κ″ st encoded arena arenaAfter answers answersAfter r e seven cs decoded room
 
--- on a station that calls reach no request waits whose byte 2 no request may have
-no-request-84 : (st : Station) → Reached st → (byte3 position place : ℕ) → position < portCount → matches 0x84 byte3 (requestIn (portAt st position .places) place) ≡ false
-no-request-84 st k byte3 position place h = go (matches 0x84 byte3 r) refl
-  where
-    r : Request
-    r = requestIn (portAt st position .places) place
+  -- of the rules alone: every call has one case, and each port is by itself
+  one-case : (st : Station) → AllPlaced st → (c : Call) → ByCases st c
+  one-case = d .of-the-rules .cases
 
-    go : (b : Bool) → matches 0x84 byte3 (requestIn (portAt st position .places) place) ≡ b → b ≡ false
-    go true e =
-        let waits = both (not (isEmpty r)) (eqb (r .byte2 .0) 0x84 && eqb (r .byte3) byte3) e in
-        let is84 = eqb-true (r .byte2 .0) 0x84 (both (eqb (r .byte2 .0) 0x84) (eqb (r .byte3) byte3) (waits .1) .0) in
-        absurd (false≢true (sym (ap isAskable is84) ∙ k .each position h .waiting .each place .askable (not-true (isEmpty r) (waits .0))))
-    go false e = refl
+  by-itself : (n : ℕ) → isPort n ≡ true → (st : Station) → Start st → (cs : List Call) → Alone n st cs
+  by-itself = d .of-runs .alone

@@ -12,15 +12,14 @@ use Rattle.station.specs.StationContracts.{takeOutcome}
 use Rattle.station.specs.StationTaking.{takeRule}
 use Rattle.sequence.specs.Starts.{Start, fresh}
 use Rattle.sequence.specs.Steps as steps
-use Rattle.sequence.specs.Steps.{Call, take, Outcome, takeStep, step, run}
+use Rattle.sequence.specs.Steps.{Call, take, Outcome, takeStep, step, run, Returned}
 use Rattle.sequence.specs.Refused.{isRefusal, Unchanged}
 use Rattle.sequence.specs.Sentence.{sentence}
 use Rattle.sequence.specs.SentenceLaws.{by-answer}
 use Rattle.sequence.specs.Transcripts.{Entry, transcript}
-use Rattle.sequence.specs.Remaining.{view}
+use Rattle.sequence.specs.Remaining.{view, whole, count}
 use Rattle.sequence.specs.Histories.{Ensured, Made, callOf, last, made}
 use Rattle.sequence.specs.HistoriesLaws as histories
-use Rattle.sequence.specs.ComparisonLaws.{comparison}
 use Rattle.reach.specs.Sound.{Reached}
 use Rattle.reach.specs.RefusalTable.{ByTheTable}
 use Rattle.reach.specs.Completion.{Completion}
@@ -49,6 +48,12 @@ by-step P e h = subst P (sym (histories.met e)) h
 refused-keeps : (st : Station) (c : Call) (o : Outcome) → Ensured st c o → isRefusal (o .answer) ≡ true → Unchanged st c o
 refused-keeps st c o e = by-step (λ o. isRefusal (o .answer) ≡ true → Unchanged st c o) e (complete .refused st c)
 
+same-whole : {r q : Returned} → whole r ≡ whole q → r ≡ q
+same-whole e = cc
+
+same-count : {m n : ℕ} → count m ≡ count n → m ≡ n
+same-count e = cc
+
 same-taken : {a b : Answer} → steps.taken a ≡ steps.taken b → a ≡ b
 same-taken e = cc
 
@@ -75,18 +80,20 @@ demands =
       counts = λ st k c o e n h. by-step (λ o. EndsAt n c (o .answer) (view n st) (view n (o .station))) e (complete .ends st k c n h);
       begins = λ r e. subst Start (sym e) fresh;
       reached = λ st begins ms k. subst Reached (sym (histories.history st ms k .station)) (complete .reached st begins (map callOf ms));
-      every-answer = λ st begins ms k. histories.history st ms k .entries;
-      final-station = λ st begins ms k. histories.history st ms k .station;
+      every-answer = λ st ms k. histories.history st ms k .entries;
+      final-station = λ st ms k. histories.history st ms k .station;
       struck = λ st c o e. by-answer st c ∙ ap (λ (x : Outcome). sentence c (x .answer)) (sym (histories.met e));
       holds = λ n h st begins ms ns k l e. histories.alone n h st begins ms ns k l e .holds;
       returns = λ n h st begins ms ns k l e. histories.alone n h st begins ms ns k l e .returns;
-      compares-all = comparison .whole;
-      compares-count = comparison .count;
+      compares-all = λ n number o q e. let h = same-whole e in (ap (λ (t : Returned). t .answer) h, (ap (λ (t : Returned). t .read) h, ap (λ (t : Returned). t .lent) h));
+      compares-count = λ n o q xs ys a b e. let h = same-count e in cc (a, b, h);
       orders = histories.orders;
       cut = histories.cut;
       accounted = λ n h st begins ms k. let r = histories.history st ms k in accounted-so n st ms (r .entries) (r .station) (complete .accounted n h st begins (map callOf ms));
       runs = λ κ κ′ κ″ st encoded arena arenaAfter answers answersAfter r e. demand3 .run-encoded st (now encoded) (now arena) (now answers) r (now arenaAfter) (now answersAfter) e;
       rows = λ κ κ′ κ″ st encoded arena arenaAfter answers answersAfter r e seven. demand3 .program-rows st seven (now encoded) (now arena) (now answers) r (now arenaAfter) (now answersAfter) e;
+      of-the-rules = complete;
+      of-runs = demand3;
     }
   where
     accounted-so : (n : ℕ) (st : Station) (ms : List Made) → made st ms ≡ transcript st (map callOf ms) → last st ms ≡ run st (map callOf ms) → Accounted n (transcript st (map callOf ms)) (view n (run st (map callOf ms))) → Accounted n (made st ms) (view n (last st ms))

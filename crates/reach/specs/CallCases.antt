@@ -26,6 +26,7 @@ use Rattle.station.specs.declared.Station.{Station}
 use Rattle.station.specs.Stations.{portCount, positionOf, portAt}
 use Rattle.station.specs.StationTaking.{storedAt}
 use Rattle.station.specs.StationCalls.{requestedAt, cancelledAt, tickAll}
+use Rattle.sequence.specs.Remaining.{portFor}
 use Rattle.sequence.specs.Steps.{Writer, Call, take, request, cancel, tick, write, Outcome, takeStep, requestStep, cancelStep, tickStep, writeStep, writerRule, step}
 
 -- a request with these bytes 2 and 3 waits at the port
@@ -34,10 +35,6 @@ Waits p byte2 byte3 = (place : ℕ) × (matches byte2 byte3 (requestIn (p .place
 
 abbrev pub gives : Answer → Port → Result
 gives answer port = record { answer = answer; port = port }
-
--- the port that a number names
-abbrev pub portFor : Station → ℕ → Port
-portFor st device = portAt st (positionOf device)
 
 -- a HID++ report at its port
 module _ (p : Port) (m : Message) where

@@ -34,7 +34,8 @@ use Rattle.sequence.specs.Steps.{Call, take, request, cancel, tick, write, Outc
 use Rattle.reach.specs.ListsLaws.{found-passes, passes-found}
 use Rattle.sequence.specs.ReadingsLaws.{in-range, above}
 use Rattle.reach.specs.SoundLaws.{empty-fails}
-use Rattle.reach.specs.CallCases.{portFor, Waits, Unasked, IsFailed, IsReply, IsStray, unnamed, register, reserved, late, IsPlain, notification, major1, IsEvent, software0, HidppCase, givesFailed, givesReply, givesStray, givesPlain, givesEvent, radioUnpaired, radioUndeclared, linkUnpaired, DjCase, djRefused, radioTaken, unpairs, pairedSame, pairedNew, linkSet, otherNotice, Fits, RequestRefused, is9, is10, is11, is12, RequestCase, requestRefused, accepted, CancelCase, refused13, cancelDone, StepCase, unread, listEmpty, hidppAtPort, djAtPort, request5, requestAtPort, cancel5, cancelAtPort, tickAllPorts, writeOnly, Placed, AllPlaced, ByCases, HidppAnswers, RequestAnswers, CancelAnswers}
+use Rattle.sequence.specs.Remaining.{portFor}
+use Rattle.reach.specs.CallCases.{Waits, Unasked, IsFailed, IsReply, IsStray, unnamed, register, reserved, late, IsPlain, notification, major1, IsEvent, software0, HidppCase, givesFailed, givesReply, givesStray, givesPlain, givesEvent, radioUnpaired, radioUndeclared, linkUnpaired, DjCase, djRefused, radioTaken, unpairs, pairedSame, pairedNew, linkSet, otherNotice, Fits, RequestRefused, is9, is10, is11, is12, RequestCase, requestRefused, accepted, CancelCase, refused13, cancelDone, StepCase, unread, listEmpty, hidppAtPort, djAtPort, request5, requestAtPort, cancel5, cancelAtPort, tickAllPorts, writeOnly, Placed, AllPlaced, ByCases, HidppAnswers, RequestAnswers, CancelAnswers}
 
 -- joined with a false test
 pub and-false : (b : Bool) → (b && false) ≡ false

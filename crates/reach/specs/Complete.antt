@@ -14,7 +14,7 @@ use Rattle.station.specs.StationTaking.{takeRule}
 use Rattle.sequence.specs.Starts.{Start}
 use Rattle.sequence.specs.Steps.{Call, step, run}
 use Rattle.sequence.specs.Transcripts.{transcript}
-use Rattle.sequence.specs.Remaining.{view}
+use Rattle.sequence.specs.Remaining.{portFor}
 use Rattle.sequence.specs.Sentence.{ByAnswer}
 use Rattle.sequence.specs.Refused.{isRefusal, Unchanged}
 use Rattle.reach.specs.Sound.{Reached}
@@ -40,8 +40,8 @@ pub record Complete : Type 0 where
   pub refused : (st : Station) (c : Call) → isRefusal (step st c .answer) ≡ true → Unchanged st c (step st c)
   pub named : (st : Station) (c : Call) → ByAnswer st c
   -- on every station that calls reach, of every call and each port: what becomes of each place, as the answer counts it; which fields change; and which request a report completes
-  pub ends : (st : Station) → Reached st → (c : Call) (n : ℕ) → isPort n ≡ true → EndsAt n c (step st c .answer) (view n st) (view n (step st c .station))
-  pub changes : (st : Station) → Reached st → (c : Call) (n : ℕ) → isPort n ≡ true → ChangesListed n c (step st c .answer) (view n st) (view n (step st c .station))
+  pub ends : (st : Station) → Reached st → (c : Call) (n : ℕ) → isPort n ≡ true → EndsAt n c (step st c .answer) (portFor st n) (portFor (step st c .station) n)
+  pub changes : (st : Station) → Reached st → (c : Call) (n : ℕ) → isPort n ≡ true → ChangesListed n c (step st c .answer) (portFor st n) (portFor (step st c .station) n)
   pub completes : (st : Station) → Reached st → (bytes : List ℕ) → Completion st bytes (takeRule st bytes .answer) (takeRule st bytes .station)
   -- over all of a run: what was accepted on a port has ended in one of the ways, or waits
-  pub accounted : (n : ℕ) → isPort n ≡ true → (st : Station) → Start st → (cs : List Call) → Accounted n (transcript st cs) (view n (run st cs))
+  pub accounted : (n : ℕ) → isPort n ≡ true → (st : Station) → Start st → (cs : List Call) → Accounted n (transcript st cs) (portFor (run st cs) n)

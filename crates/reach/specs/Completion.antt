@@ -17,7 +17,7 @@ use Rattle.port.specs.Answers.{Answer, refused, reply, stray, plain, event, fai
 use Rattle.hidpp.specs.HidppTaking.{isError}
 use Rattle.dj.specs.DjTaking.{wpidOf, isPairedWith}
 use Rattle.station.specs.declared.Station.{Station}
-use Rattle.sequence.specs.Remaining.{view}
+use Rattle.sequence.specs.Remaining.{portFor}
 use Rattle.reach.specs.CallCases.{Waits}
 
 -- the answer says that a request is completed by a reply, and by an error
@@ -55,12 +55,12 @@ isFitting bytes = eqb (byte bytes 2) 0x8F || isFeature (byte bytes 3)
 -- one waits on the device that byte 1 names with the same bytes 2 and 3, and the report is no error
 abbrev pub Replies : Station → List ℕ → Type 0
 Replies st bytes =
-    (isHidppRead (readRule bytes) ≡ true) × ((isError (byte bytes 2) ≡ false) × Waits (view (byte bytes 1) st) (byte bytes 2) (byte bytes 3))
+    (isHidppRead (readRule bytes) ≡ true) × ((isError (byte bytes 2) ≡ false) × Waits (portFor st (byte bytes 1)) (byte bytes 2) (byte bytes 3))
 
 -- the report is an error, one waits there with the two bytes that it names, and the kind fits it
 abbrev pub Fails : Station → List ℕ → Type 0
 Fails st bytes =
-    (isHidppRead (readRule bytes) ≡ true) × ((isError (byte bytes 2) ≡ true) × ((isFitting bytes ≡ true) × Waits (view (byte bytes 1) st) (byte bytes 3) (byte bytes 4)))
+    (isHidppRead (readRule bytes) ≡ true) × ((isError (byte bytes 2) ≡ true) × ((isFitting bytes ≡ true) × Waits (portFor st (byte bytes 1)) (byte bytes 3) (byte bytes 4)))
 
 -- a DJ report that makes the port fresh: 0x40, and 0x41 with another WPID or for a device that is not paired
 abbrev pub makesFresh : Port → ℕ → List ℕ → Bool
@@ -76,7 +76,7 @@ readEnds (reading.dj x) bytes n p r =
 readEnds (reading.emptyList x) bytes n p r = false
 
 abbrev pub endsIn : Station → List ℕ → ℕ → ℕ → Bool
-endsIn st bytes n place = readEnds (readRule bytes) bytes n (view n st) (requestIn (view n st .places) place)
+endsIn st bytes n place = readEnds (readRule bytes) bytes n (portFor st n) (requestIn (portFor st n .places) place)
 
 -- of taking these bytes on this station: the answer, and the next station
 pub record Completion (st : Station) (bytes : List ℕ) (answer : Answer) (next : Station) : Type 0 where
@@ -84,6 +84,6 @@ pub record Completion (st : Station) (bytes : List ℕ) (answer : Answer) (next 
   pub replies : (isReply answer ≡ true) ↔ Replies st bytes
   pub fails : (isFailure answer ≡ true) ↔ Fails st bytes
   -- that one is ended, and no other place of any port changes
-  pub ends : (n : ℕ) → isPort n ≡ true → (place : ℕ) → requestIn (view n next .places) place ≡ cond (endsIn st bytes n place) emptyPlace (requestIn (view n st .places) place)
+  pub ends : (n : ℕ) → isPort n ≡ true → (place : ℕ) → requestIn (portFor next n .places) place ≡ cond (endsIn st bytes n place) emptyPlace (requestIn (portFor st n .places) place)
   -- a HID++ report ends one at most
   pub one : isHidppRead (readRule bytes) ≡ true → (n m i j : ℕ) → isPort n ≡ true → isPort m ≡ true → endsIn st bytes n i ≡ true → endsIn st bytes m j ≡ true → (n ≡ m) × (i ≡ j)

@@ -95,8 +95,8 @@ endedBy w n (dropped port count) = cond (eqb port n && isWay w byDrop) count 0
 endedBy w n (expired counts) = cond (isWay w byExpiry) (getD counts (positionOf n) 0) 0
 
 -- in any way
-abbrev pub endedOn : ℕ → Ending → ℕ
-endedOn n e =
+abbrev pub endedInAll : ℕ → Ending → ℕ
+endedInAll n e =
     endedBy byReply n e + (endedBy byError n e + (endedBy byExpiry n e + (endedBy byCancel n e + endedBy byDrop n e)))
 
 -- how many requests it begins on that port: one whose frame is written waits
@@ -117,9 +117,16 @@ begunOn n (cancel device byte2 byte3) a = 0
 begunOn n tick a = 0
 begunOn n (write writer offset lent) a = 0
 
--- what a call with its answer makes of one place of the port of a number: it stays, is lowered by a tick, is filled by this very request, or is emptied in one of the ways
+abbrev pub isTick : Call → Bool
+isTick (take bytes) = false
+isTick (request device byte2 byte3 ticks params offset lent) = false
+isTick (cancel device byte2 byte3) = false
+isTick tick = true
+isTick (write writer offset lent) = false
+
+-- what a call with its answer makes of one place of the port of a number: it stays, unless a request waits there and the call is a tick; is lowered by a tick, is filled by this very request, or is emptied in one of the ways
 pub data Fate (n : ℕ) (c : Call) (a : CallAnswer) (before after : Request) : Type 0 where
-  stays : ((w : Way) → endsBy w n (endingOf c a) before ≡ false) → after ≡ before → Fate n c a before after
+  stays : ((w : Way) → endsBy w n (endingOf c a) before ≡ false) → (isTick c && not (isEmpty before)) ≡ false → after ≡ before → Fate n c a before after
   lowered : c ≡ tick → 1 < before .ticks → after ≡ withTicks before (before .ticks - 1) → Fate n c a before after
   filled : (byte2 byte3 ticks : ℕ) (params : List ℕ) (offset : ℕ) (lent : List ℕ) → c ≡ request n byte2 byte3 ticks params offset lent → isWritten a ≡ true → isEmpty before ≡ true → after ≡ pendingOf byte2 byte3 ticks params → Fate n c a before after
   emptied : (w : Way) → endsBy w n (endingOf c a) before ≡ true → isEmpty before ≡ false → after ≡ emptyPlace → Fate n c a before after
@@ -135,7 +142,7 @@ pub record EndsAt (n : ℕ) (c : Call) (a : CallAnswer) (p q : Port) : Type 0 wh
   -- for each way, as many places are emptied in it as the answer says
   pub counted : (w : Way) → sumOver (λ r. oneIf (endsBy w n (endingOf c a) r)) (p .places) ≡ endedBy w n (endingOf c a)
   -- what waited or begins waits or ends
-  pub balance : waitingOn q + endedOn n (endingOf c a) ≡ waitingOn p + begunOn n c a
+  pub balance : waitingOn q + endedInAll n (endingOf c a) ≡ waitingOn p + begunOn n c a
 
 -- over a transcript, from the answers given: how many requests ended on the port of a number in each way, and how many began
 unfoldable pub endedIn : Way → ℕ → List Entry → ℕ

@@ -25,7 +25,7 @@ use Rattle.reach.specs.Sound.{SoundPlaces}
 use Rattle.reach.specs.SoundLaws.{empty-fails, reply-records, error-records, event-records}
 use Rattle.reach.specs.CallCases.{Waits, failedPlace, repliedPlace, HidppCase, givesFailed, givesReply, givesStray, givesPlain, givesEvent, DjCase, djRefused, radioTaken, unpairs, pairedSame, pairedNew, linkSet, otherNotice, CancelCase, refused13, cancelDone, Placed}
 use Rattle.reach.specs.CallCasesLaws.{and-false, not-so, waits-found}
-use Rattle.reach.specs.Ends.{Way, byReply, byError, byExpiry, byCancel, byDrop, wayNumber, isWay, Ending, nothing, one, dropped, expired, takeEnding, cancelEnding, endsBy, oneIf, endedBy, endedOn, waitingOn}
+use Rattle.reach.specs.Ends.{Way, byReply, byError, byExpiry, byCancel, byDrop, wayNumber, isWay, Ending, nothing, one, dropped, expired, takeEnding, cancelEnding, endsBy, oneIf, endedBy, endedInAll, waitingOn}
 
 -- sums over the places
 pub sum-zero : (f : Request → ℕ) → ((r : Request) → f r ≡ 0) → (rs : List Request) → sumOver f rs ≡ 0
@@ -72,7 +72,7 @@ pub data Change (n : ℕ) (x : Ending) (before after : Request) : Type 0 where
 pub record EndingAt (n : ℕ) (x : Ending) (p q : Port) : Type 0 where
   pub change : (place : ℕ) → Change n x (requestIn (p .places) place) (requestIn (q .places) place)
   pub counted : (w : Way) → sumOver (λ r. oneIf (endsBy w n x r)) (p .places) ≡ endedBy w n x
-  pub balance : waitingOn q + endedOn n x ≡ waitingOn p
+  pub balance : waitingOn q + endedInAll n x ≡ waitingOn p
 
 -- what an answer says is about another port
 abbrev pub Elsewhere : ℕ → Ending → Type 0
@@ -148,7 +148,7 @@ module _ (n : ℕ) (p q : Port) where
   fresh-empty e place =
       ap (λ (l : List Request). requestIn l place) e ∙ each-replicate (λ (r : Request). r ≡ emptyPlace) emptyPlace placeCount emptyPlace refl refl place
 
-  drop-balance : q .places ≡ freshPort .places → waitingOn q + endedOn n (dropped n (waitingOn p)) ≡ waitingOn p
+  drop-balance : q .places ≡ freshPort .places → waitingOn q + endedInAll n (dropped n (waitingOn p)) ≡ waitingOn p
   unfolding freshPort sumOver emptyPlace
   drop-balance e = simp is-n (omega (arith, ap countWaiting e))
 
@@ -218,7 +218,7 @@ module _ (n : ℕ) (way : Way) (byte2 byte3 : ℕ) (p q : Port) (s : SoundPlaces
       let waited : oneIfWaiting r ≡ 1 = ap (λ (b : Bool). cond b 0 1) (matched-waits byte2 byte3 r (there .1)) in
       omega (arith, ap countWaiting e, sum-set oneIfWaiting (p .places) (waitingAt p byte2 byte3) emptyPlace emptyPlace (there .0), waited)
 
-  one-in-all : endedOn n (one way n byte2 byte3) ≡ 1
+  one-in-all : endedInAll n (one way n byte2 byte3) ≡ 1
   one-in-all = simp (is-n n p q) (go way)
     where
       go : (v : Way) → oneIf (isWay byReply v) + (oneIf (isWay byError v) + (oneIf (isWay byExpiry v) + (oneIf (isWay byCancel v) + oneIf (isWay byDrop v)))) ≡ 1

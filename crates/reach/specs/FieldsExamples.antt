@@ -5,10 +5,10 @@ use mathlib.Core.Bool.{Bool, true, false}
 use mathlib.Core.List.{List, [], _∷_}
 use Rattle.report.specs.declared.FeatureIndex.{FeatureIndex}
 use Rattle.port.specs.declared.Port.{Port}
-use Rattle.port.specs.Records.{freshPort, emptyPlace, withPairing, withFeatures}
+use Rattle.port.specs.Records.{freshPort, withPairing, withFeatures}
 use Rattle.port.specs.Waiting as waiting
 use Rattle.frame.specs.Writing as writing
-use Rattle.port.specs.Answers.{About, Answer, refused, reply, stray, plain, event, failed, radio, notice, unpaired, paired, emptyList, link, other}
+use Rattle.port.specs.Answers.{About, Answer, refused, reply, stray, plain, event, failed, radio, notice, unpaired, paired, link, other}
 use Rattle.sequence.specs.Steps.{getPaired, Call, take, request, cancel, tick, write, CallAnswer, taken, written, cancelled, ticked}
 use Rattle.reach.specs.Fields.{pairing, wpid, bitfield, linkUp, version, features, battery, places, lists}
 

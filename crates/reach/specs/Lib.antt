@@ -1,6 +1,7 @@
 pub mod ListsLaws
 pub mod Sound
 pub mod SoundLaws
+pub mod SoundExamples
 pub mod CallCases
 pub mod CallCasesLaws
 pub mod SoundCallsLaws

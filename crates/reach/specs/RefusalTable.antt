@@ -10,13 +10,13 @@ use Rattle.report.specs.Sizes.{byte, isHidpp, isReportId, lengthOf, djStart}
 use Rattle.report.specs.Reading as reading
 use Rattle.report.specs.Reading.{isReserved, goesDown, isEmptyList, hasPort, reportFrom, readRule}
 use Rattle.frame.specs.Writing as writing
-use Rattle.frame.specs.Writing.{fitsAt, hasReservedBits}
+use Rattle.frame.specs.Writing.{fitsAt, switchFrame, getPairedFrame, ledFrame, hasReservedBits}
 use Rattle.port.specs.Answers as answers
 use Rattle.port.specs.Waiting as waiting
 use Rattle.listing.specs.Listing.{listing}
 use Rattle.station.specs.declared.Station.{Station}
 use Rattle.sequence.specs.Steps.{switch, getPaired, led, list, Call, take, request, cancel, write, CallAnswer, taken, written, cancelled}
-use Rattle.sequence.specs.Remaining.{view}
+use Rattle.sequence.specs.Remaining.{portFor}
 use Rattle.reach.specs.CallCases.{Waits, DjRefused, RequestRefused}
 
 -- a report of one of the four ids and of its length
@@ -43,21 +43,21 @@ Short size offset lent = fitsAt size offset (length lent) ≡ false
 pub data Row (st : Station) : Call → ℕ → Type 0 where
   -- take: 1 to 6 by the bytes; 7 and 8 at the port
   byBytes : {bytes : List ℕ} {number : ℕ} → ReadRefused bytes number → Row st (take bytes) number
-  byPort : {bytes : List ℕ} {number : ℕ} → readRule bytes ≡ reading.dj (reportFrom djStart bytes) → DjRefused (view (byte bytes 1) st) (reportFrom djStart bytes) bytes number → Row st (take bytes) number
+  byPort : {bytes : List ℕ} {number : ℕ} → readRule bytes ≡ reading.dj (reportFrom djStart bytes) → DjRefused (portFor st (byte bytes 1)) (reportFrom djStart bytes) bytes number → Row st (take bytes) number
   -- request: 5; 9, 10, 11, 12 at the port
   request5 : {device byte2 byte3 ticks : ℕ} {params : List ℕ} {offset : ℕ} {lent : List ℕ} → isPort device ≡ false → Row st (request device byte2 byte3 ticks params offset lent) 5
-  requestAt : {device byte2 byte3 ticks : ℕ} {params : List ℕ} {offset : ℕ} {lent : List ℕ} {number : ℕ} → isPort device ≡ true → RequestRefused (view device st) device byte2 byte3 ticks params offset lent number → Row st (request device byte2 byte3 ticks params offset lent) number
+  requestAt : {device byte2 byte3 ticks : ℕ} {params : List ℕ} {offset : ℕ} {lent : List ℕ} {number : ℕ} → isPort device ≡ true → RequestRefused (portFor st device) device byte2 byte3 ticks params offset lent number → Row st (request device byte2 byte3 ticks params offset lent) number
   -- cancel: 5, 13
   cancel5 : {device byte2 byte3 : ℕ} → isPort device ≡ false → Row st (cancel device byte2 byte3) 5
-  cancel13 : {device byte2 byte3 : ℕ} → isPort device ≡ true → ¬ Waits (view device st) byte2 byte3 → Row st (cancel device byte2 byte3) 13
+  cancel13 : {device byte2 byte3 : ℕ} → isPort device ≡ true → ¬ Waits (portFor st device) byte2 byte3 → Row st (cancel device byte2 byte3) 13
   -- switch: 14, 10
   switch14 : {bits timeout offset : ℕ} {lent : List ℕ} → hasReservedBits bits ≡ true → Row st (write (switch bits timeout) offset lent) 14
-  switch10 : {bits timeout offset : ℕ} {lent : List ℕ} → hasReservedBits bits ≡ false → Short 15 offset lent → Row st (write (switch bits timeout) offset lent) 10
+  switch10 : {bits timeout offset : ℕ} {lent : List ℕ} → hasReservedBits bits ≡ false → Short (length (switchFrame bits timeout)) offset lent → Row st (write (switch bits timeout) offset lent) 10
   -- get paired: 10
-  getPaired10 : {offset : ℕ} {lent : List ℕ} → Short 15 offset lent → Row st (write getPaired offset lent) 10
+  getPaired10 : {offset : ℕ} {lent : List ℕ} → Short (length getPairedFrame) offset lent → Row st (write getPaired offset lent) 10
   -- LED: 5, 10
   led5 : {device leds offset : ℕ} {lent : List ℕ} → isDevice device ≡ false → Row st (write (led device leds) offset lent) 5
-  led10 : {device leds offset : ℕ} {lent : List ℕ} → isDevice device ≡ true → Short 15 offset lent → Row st (write (led device leds) offset lent) 10
+  led10 : {device leds offset : ℕ} {lent : List ℕ} → isDevice device ≡ true → Short (length (ledFrame device leds)) offset lent → Row st (write (led device leds) offset lent) 10
   -- the listing: 10
   list10 : {offset : ℕ} {lent : List ℕ} → Short (length (listing (st .ports))) offset lent → Row st (write list offset lent) 10
 

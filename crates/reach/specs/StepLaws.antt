@@ -42,7 +42,7 @@ use Rattle.reach.specs.SoundLaws.{sound-ticks, sound-fresh}
 use Rattle.reach.specs.SoundCallsLaws.{allowed, hidpp-sound, dj-sound, request-sound, cancel-sound}
 use Rattle.reach.specs.CallCases.{Placed, RequestCase, requestRefused, accepted, StepCase, unread, listEmpty, hidppAtPort, djAtPort, request5, requestAtPort, cancel5, cancelAtPort, tickAllPorts, writeOnly, AllPlaced}
 use Rattle.reach.specs.CallCasesLaws.{and-false, empty-place, step-case}
-use Rattle.reach.specs.Ends.{takeEnding, Way, byReply, byError, byExpiry, byCancel, byDrop, isWay, endingOf, nothing, endsBy, oneIf, begunOn, Fate, stays, lowered, filled, emptied, waitingOn, EndsAt, endedIn, begunIn, Accounted}
+use Rattle.reach.specs.Ends.{isTick, takeEnding, Way, byReply, byError, byExpiry, byCancel, byDrop, isWay, endingOf, nothing, endsBy, oneIf, begunOn, Fate, stays, lowered, filled, emptied, waitingOn, EndsAt, endedIn, begunIn, Accounted}
 use Rattle.reach.specs.EndsLaws.{Elsewhere, sum-zero, Change, same, empties, EndingAt, elsewhere as ends-elsewhere, hidpp-ends, dj-ends, cancel-ends, hidpp-apart, dj-apart, cancel-apart}
 use Rattle.reach.specs.Fields.{Field, takeLists, ChangesListed, Same}
 use Rattle.reach.specs.FieldsLaws.{Keeps, kept, keeps-all, hidpp-keeps, dj-keeps, request-keeps, cancel-keeps, tick-keeps}
@@ -51,19 +51,19 @@ pub all-placed : {st : Station} → Reached st → AllPlaced st
 all-placed k position h = k .each position h .waiting .all
 
 -- what an answer says of the requests that ended is what becomes of the places, where the call begins none
-ends-only : (n : ℕ) (c : Call) (a : CallAnswer) {p q : Port} → begunOn n c a ≡ 0 → EndingAt n (endingOf c a) p q → EndsAt n c a p q
-ends-only n c a z e =
+ends-only : (n : ℕ) (c : Call) (a : CallAnswer) {p q : Port} → isTick c ≡ false → begunOn n c a ≡ 0 → EndingAt n (endingOf c a) p q → EndsAt n c a p q
+ends-only n c a t z e =
     record { fate = λ place. go (e .change place); counted = e .counted; balance = omega (arith, e .balance, z) }
   where
     go : {before after : Request} → Change n (endingOf c a) before after → Fate n c a before after
-    go (same f h) = stays f h
+    go (same f h) = stays f (simp t) h
     go (empties w f g h) = emptied w f g h
 
 -- a request that is accepted fills the lowest empty place
 filled-at : (n byte2 byte3 ticks : ℕ) (params : List ℕ) (offset : ℕ) (lent : List ℕ) (p : Port) {r : RequestAt} → Placed p → RequestCase p n byte2 byte3 ticks params offset lent r → EndsAt n (request n byte2 byte3 ticks params offset lent) (written (r .answer)) p (r .port)
 unfolding withPlaces pendingOf
 filled-at n byte2 byte3 ticks params offset lent p placed (requestRefused h) =
-    ends-only n (request n byte2 byte3 ticks params offset lent) (written (writing.refused _)) (simp (eq-eqb n n refl)) (ends-elsewhere n p p nothing tt refl)
+    ends-only n (request n byte2 byte3 ticks params offset lent) (written (writing.refused _)) refl (simp (eq-eqb n n refl)) (ends-elsewhere n p p nothing tt refl)
 filled-at n byte2 byte3 ticks params offset lent p {r} placed (accepted f _ l) =
     record {
       fate = λ place. go place (ℕ-discrete place free);
@@ -95,7 +95,7 @@ filled-at n byte2 byte3 ticks params offset lent p {r} placed (accepted f _ l) =
         (subst (λ (i : ℕ). isEmpty (requestIn (p .places) i) ≡ true) (sym e) was)
         (subst (λ (i : ℕ). requestIn (set (p .places) (firstAt isEmpty (p .places)) (pendingOf byte2 byte3 ticks params)) i ≡ pendingOf byte2 byte3 ticks params) (sym e) (getD-set-same (p .places) (firstAt isEmpty (p .places)) (pendingOf byte2 byte3 ticks params) emptyPlace within))
     go place (no e) =
-        stays (λ w. refl) (getD-set-other (p .places) (firstAt isEmpty (p .places)) place (pendingOf byte2 byte3 ticks params) emptyPlace e)
+        stays (λ w. refl) refl (getD-set-other (p .places) (firstAt isEmpty (p .places)) place (pendingOf byte2 byte3 ticks params) emptyPlace e)
 
 -- a tick ends those with one tick left
 tick-place : (r : Request) → oneIfWaiting (afterTick r) + oneIfEnding r ≡ oneIfWaiting r
@@ -120,7 +120,7 @@ module _ (n : ℕ) (counts : List ℕ) where
   tick-fate : (r : Request) → Fate n tick (ticked counts) r (afterTick r)
   unfolding afterTick
   tick-fate r =
-      by-case (Fate n tick (ticked counts) r) (isEmpty r) (λ e. stays (idle-tick r e) refl)
+      by-case (Fate n tick (ticked counts) r) (isEmpty r) (λ e. stays (idle-tick r e) (simp e) refl)
       (λ e. by-case (Fate n tick (ticked counts) r) (eqb (r .ticks) 1) (λ q. emptied byExpiry q e refl)
       (λ q. lowered refl (omega (arith, eqb-false (r .ticks) 0 e, eqb-false (r .ticks) 1 q)) refl))
 
@@ -128,7 +128,7 @@ module _ (n : ℕ) (counts : List ℕ) where
   unfolding tickedPort stations.endedOn withPlaces tickRule emptyPlace
   tick-ends p e =
       record {
-        fate = after-map (Fate n tick (ticked counts)) emptyPlace afterTick (p .places) (stays (idle-tick emptyPlace refl) refl) tick-fate;
+        fate = after-map (Fate n tick (ticked counts)) emptyPlace afterTick (p .places) (stays (idle-tick emptyPlace refl) refl refl) tick-fate;
         counted = λ w. go w (isWay w byExpiry) refl;
         balance = omega (arith, tick-places (p .places), e);
       }
@@ -175,11 +175,11 @@ module _ (st : Station) (k : Reached st) where
           subst (P n (view n st)) (sym (elsewhere st (positionOf device) (positionOf n) q (λ z. eqb-false device n e (sym (one-number n device h d z))))) (there e)
 
   -- a call that changes no port
-  idle : {c : Call} {a : CallAnswer} → ((n : ℕ) → begunOn n c a ≡ 0) → ((n : ℕ) → EndingAt n (endingOf c a) (view n st) (view n st)) → (read lent : List ℕ) → Steps st c (record { answer = a; read = read; lent = lent; station = st })
-  idle {c} {a} z e read lent =
+  idle : {c : Call} {a : CallAnswer} → isTick c ≡ false → ((n : ℕ) → begunOn n c a ≡ 0) → ((n : ℕ) → EndingAt n (endingOf c a) (view n st) (view n st)) → (read lent : List ℕ) → Steps st c (record { answer = a; read = read; lent = lent; station = st })
+  idle {c} {a} t z e read lent =
       record {
         reached = k;
-        ends = λ n h. ends-only n c a (z n) (e n);
+        ends = λ n h. ends-only n c a t (z n) (e n);
         changes = λ n h. kept (keeps-all _ (view n st));
       }
 
@@ -194,7 +194,7 @@ module _ (st : Station) (k : Reached st) where
   taken-at bytes device x d e sound ends apart fields =
       record {
         reached = reached-with (positionOf device) (position-within device) (x .port) sound;
-        ends = λ n h. at-port (λ i p q. EndsAt i (take bytes) (taken (x .answer)) p q) device n (x .port) d h (ends-only device (take bytes) (taken (x .answer)) refl ends) (λ z. ends-only n (take bytes) (taken (x .answer)) refl (ends-elsewhere n (view n st) (view n st) (takeEnding (x .answer)) (apart n z) refl));
+        ends = λ n h. at-port (λ i p q. EndsAt i (take bytes) (taken (x .answer)) p q) device n (x .port) d h (ends-only device (take bytes) (taken (x .answer)) refl refl ends) (λ z. ends-only n (take bytes) (taken (x .answer)) refl refl (ends-elsewhere n (view n st) (view n st) (takeEnding (x .answer)) (apart n z) refl));
         changes = λ n h. at-port (λ i p q. ChangesListed i (take bytes) (taken (x .answer)) p q) device n (x .port) d h (listed-at e fields) (λ z. kept (keeps-all _ (view n st)));
       }
 
@@ -219,8 +219,8 @@ module _ (st : Station) (k : Reached st) where
 
   case-steps : {c : Call} {o : Outcome} → StepCase st c o → Steps st c o
   unfolding messageOf
-  case-steps (unread {bytes} e) = idle (λ n. refl) nothing-ends bytes []
-  case-steps (listEmpty {bytes} e) = idle (λ n. refl) nothing-ends bytes []
+  case-steps (unread {bytes} e) = idle refl (λ n. refl) nothing-ends bytes []
+  case-steps (listEmpty {bytes} e) = idle refl (λ n. refl) nothing-ends bytes []
   case-steps (hidppAtPort {bytes} {r} {x} e h) =
       let fits = subst (ReadFits bytes) e (read-fits bytes) in
       let s = sound-at (r .device) in
@@ -229,29 +229,29 @@ module _ (st : Station) (k : Reached st) where
       let fits = subst (ReadFits bytes) e (read-fits bytes) in
       let s = sound-at (r .device) in
       taken-at bytes (r .device) x (dj-port (r .device) (r .byte2) (fits .1 .0)) (device-in djStart bytes (fits .1 .1)) (dj-sound _ _ s (receiver-kind (r .device) (r .byte2) (fits .1 .0)) h) (dj-ends _ (s .waiting) h) (λ n. dj-apart n h) (dj-keeps h)
-  case-steps (request5 {device} {params = params} {lent = lent} e) = idle (λ n. ap oneIf (and-false (eqb device n))) nothing-ends params lent
+  case-steps (request5 {device} {params = params} {lent = lent} e) = idle refl (λ n. ap oneIf (and-false (eqb device n))) nothing-ends params lent
   case-steps (requestAtPort {device} {byte2} {byte3} {ticks} {params} {offset} {lent} {x} e h) =
       let c = request device byte2 byte3 ticks params offset lent in
       let s = sound-at device in
       record {
         reached = reached-with (positionOf device) (position-within device) (x .port) (request-sound _ _ s h);
-        ends = λ n g. at-port (λ i p q. EndsAt i c (written (x .answer)) p q) device n (x .port) e g (filled-at device byte2 byte3 ticks params offset lent _ (s .waiting .all) h) (λ z. ends-only n c (written (x .answer)) (simp z) (nothing-ends n));
+        ends = λ n g. at-port (λ i p q. EndsAt i c (written (x .answer)) p q) device n (x .port) e g (filled-at device byte2 byte3 ticks params offset lent _ (s .waiting .all) h) (λ z. ends-only n c (written (x .answer)) refl (simp z) (nothing-ends n));
         changes = λ n g. at-port (λ i p q. ChangesListed i c (written (x .answer)) p q) device n (x .port) e g (listed-at {number = device} refl (request-keeps h)) (λ z. kept (keeps-all _ (view n st)));
       }
-  case-steps (cancel5 e) = idle (λ n. refl) nothing-ends [] []
+  case-steps (cancel5 e) = idle refl (λ n. refl) nothing-ends [] []
   case-steps (cancelAtPort {device} {byte2} {byte3} {x} e h) =
       let c = cancel device byte2 byte3 in
       let s = sound-at device in
       record {
         reached = reached-with (positionOf device) (position-within device) (x .port) (cancel-sound _ _ s h);
-        ends = λ n g. at-port (λ i p q. EndsAt i c (cancelled (x .answer)) p q) device n (x .port) e g (ends-only device c (cancelled (x .answer)) refl (cancel-ends _ (s .waiting) device h)) (λ z. ends-only n c (cancelled (x .answer)) refl (ends-elsewhere n (view n st) (view n st) _ (cancel-apart n device h z) refl));
+        ends = λ n g. at-port (λ i p q. EndsAt i c (cancelled (x .answer)) p q) device n (x .port) e g (ends-only device c (cancelled (x .answer)) refl refl (cancel-ends _ (s .waiting) device h)) (λ z. ends-only n c (cancelled (x .answer)) refl refl (ends-elsewhere n (view n st) (view n st) _ (cancel-apart n device h z) refl));
         changes = λ n g. at-port (λ i p q. ChangesListed i c (cancelled (x .answer)) p q) device n (x .port) e g (listed-at {number = device} refl (cancel-keeps h)) (λ z. kept (keeps-all _ (view n st)));
       }
   case-steps tickAllPorts = on-tick
   case-steps (writeOnly {writer} {offset} {lent}) =
       record {
         reached = k;
-        ends = λ n h. ends-only n (write writer offset lent) (written _) refl (nothing-ends n);
+        ends = λ n h. ends-only n (write writer offset lent) (written _) refl refl (nothing-ends n);
         changes = λ n h. kept (keeps-all _ (view n st));
       }
 

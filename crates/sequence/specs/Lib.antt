@@ -14,5 +14,4 @@ pub mod Independence
 pub mod IndependenceLaws
 pub mod Histories
 pub mod HistoriesLaws
-pub mod Comparison
-pub mod ComparisonLaws
+pub mod HistoriesExamples

@@ -10,12 +10,16 @@ use Rattle.sequence.specs.Steps.{CallAnswer, taken, written, cancelled, 
 use Rattle.sequence.specs.Targets.{Target, none, one, all, isFor}
 use Rattle.sequence.specs.Transcripts.{Entry}
 
--- what is held for the port of a number: what is compared of a station
+-- the port of a number
+abbrev pub portFor : Station → ℕ → Port
+portFor st number = portAt st (positionOf number)
+
+-- what is compared of a station for the port of a number: what is held for it
 abbrev pub View : Type 0
 View = Port
 
 abbrev pub view : ℕ → Station → View
-view n st = portAt st (positionOf n)
+view n st = portFor st n
 
 -- strike out every call for another port or for none; keep the ticks
 unfoldable pub remaining : ℕ → List Entry → List Entry
