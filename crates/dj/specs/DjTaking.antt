@@ -31,7 +31,7 @@ radioRule port kind size =
     (cond (not (isDeclared (port .reports) kind)) (record { answer = refused notDeclared; port = port })
     (record { answer = radioAnswer kind size; port = withLink port true }))
 
--- 0x40: record and waiting requests become fresh; the answer counts the dropped requests
+-- 0x40: the whole port is made fresh, and the answer says how many requests waited there
 unfoldable pub unpairedRule : Port → ℕ → Result
 unpairedRule port device =
     record { answer = notice (unpaired device (countWaiting (port .places))); port = madeFresh port }
@@ -52,7 +52,7 @@ reportsOf bytes = joined4 (p bytes 3) (p bytes 4) (p bytes 5) (p bytes 6)
 abbrev pub isPairedWith : Port → ℕ → Bool
 isPairedWith port wpid = port .paired && eqb (port .wpid) wpid
 
--- 0x41: if the device is paired with that WPID, only the bitfield is replaced; otherwise the port is made fresh, then paired, link down, and the dropped requests are counted
+-- 0x41: a device that has this WPID already gets the new bitfield and keeps the rest; for any other, the port is made fresh and then paired, and the answer says how many requests waited there
 unfoldable pub pairedRule : Port → ℕ → Bool → ℕ → ℕ → Result
 pairedRule port device more wpid reports =
     cond (isPairedWith port wpid)

@@ -34,7 +34,7 @@ abbrev pub pick : List ℕ → Decoded → Decoded → Decoded
 pick [] none some = none
 pick (x ∷ s) none some = some
 
--- block by block; each is longer than nothing, so one of fuel for each byte is enough
+-- block by block. The first number is the most blocks that are read: no block is empty, so the number of bytes is enough
 unfoldable pub decodeBy : ℕ → List ℕ → List ℕ → Decoded
 decodeBy zero s a = pick s (atEnd a) malformed
 decodeBy (suc fuel) s a =

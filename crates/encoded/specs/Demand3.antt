@@ -20,7 +20,7 @@ use Rattle.encoded.specs.EncodedContracts.{outcomeOf, EncodedPromise}
 pub record Demand3 : Type 0 where
   -- for every list of calls and each of the seven ports: strike out every call for another port or for none, keep the ticks; the port then holds what it holds after the full run, and each call left has the same answer and leaves the same lent bytes, of a tick that port's count
   pub alone : (n : ℕ) → isPort n ≡ true → (st : Station) → Start st → (cs : List Call) → ports.Alone n st cs
-  -- any two orders from which striking out leaves, for each port, the same calls in the same order end in the same station
+  -- two orders of calls in which each port has its own calls and the ticks in the same sequence end in the same station
   pub orders : (st : Station) → Start st → (cs ds : List Call) → ports.SameOrders st cs ds → run st cs ≡ run st ds
   -- every history of the program's calls, of any length, from any station: every answer, every lent byte and the final station are those of the rules' run
   pub program : (st : Station) (ms : List program.Made) → program.History st ms → program.ByTheRules st ms

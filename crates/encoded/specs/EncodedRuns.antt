@@ -33,12 +33,12 @@ AllFit (t ∷ ts) = Fits (t .answer) × AllFit ts
 abbrev pub answersOf : List Returned → List CallAnswer
 answersOf ts = map (λ (t : Returned). t .answer) ts
 
--- the answers that so many rows at the front of these bytes stand for
+-- the answers in the first `count` rows of these bytes
 unfoldable pub answersIn : (count : ℕ) → List ℕ → List CallAnswer
 answersIn zero bytes = []
 answersIn (suc count) bytes = decodeAnswer (take rowSize bytes) ∷ answersIn count (drop rowSize bytes)
 
--- the rows of the calls at the front of these bytes stand for the answers of the rules' run
+-- the first rows of these bytes, one for each call, read back as the answers of the rules' run
 abbrev pub ReadsBack : Station → List Call → List ℕ → Type 0
 ReadsBack st cs bytes = answersIn (length cs) bytes ≡ answersOf (returnedBy st cs)
 

@@ -30,7 +30,7 @@ pub part-for : (b : List ℕ) (p n m : ℕ) → n ≡ m → p + m ≤ length b �
 part-for b p n m e h =
     length-take-le (p + n - p) (drop p b) (omega (arith, length-drop p b)) ∙ omega arith
 
--- a buffer that is filled up to an offset: its front, and then what stood there before
+-- a buffer that is filled up to an offset: its front, and then what was there before
 pub record FilledTo (b front a : List ℕ) (p : ℕ) : Type 0 where
   pub size : length front ≡ p
   pub within : p ≤ length b

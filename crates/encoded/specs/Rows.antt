@@ -75,7 +75,7 @@ isSet n = eqb n 1
 abbrev pub aboutIn : List ℕ → answers.About
 aboutIn row = record { port = at row 1; byte2 = at row 2; byte3 = at row 3; start = at row 4; size = at row 5 }
 
--- the answer that a row stands for
+-- the answer that a row encodes
 unfoldable pub decodeAnswer : List ℕ → CallAnswer
 decodeAnswer row =
     cond (eqb (at row 0) 0) (taken (answers.refused (at row 1)))

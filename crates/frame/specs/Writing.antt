@@ -27,7 +27,7 @@ pasted frame offset lent = take offset lent ++ (frame ++ drop (offset + length f
 abbrev pub fitsAt : ℕ → ℕ → ℕ → Bool
 fitsAt size offset room = leb (offset + size) room
 
--- a refusal leaves the buffer as it stood
+-- a refusal leaves the buffer as it was
 abbrev pub kept : ℕ → List ℕ → WriteOutcome
 kept number lent = record { answer = refused number; lent = lent }
 

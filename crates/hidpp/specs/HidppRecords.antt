@@ -42,14 +42,14 @@ indexFrom index = record { 0 = cond (leb index maxIndex) index 0 }
 abbrev pub askedFeature : Request → ℕ
 askedFeature r = joined2 (r .first .1) (r .first .0)
 
--- where these are a known feature id, its index is the first returned byte, or 0 if that is above 63; for any other feature nothing changes
+-- a known feature gets the index that was returned, 0 where that is too large; for any other feature nothing changes
 unfoldable pub withFoundFeature : Port → Request → ℕ → Port
 withFoundFeature p r index =
     cond (ltb (slotOf (askedFeature r)) featureCount)
     (withFeatures p (set (p .features) (slotOf (askedFeature r)) (indexFrom index)))
     p
 
--- the battery from three parameters if the first two are at most 100
+-- level, next level and status, unless one of the two levels is above 100
 unfoldable pub withBatteryFrom : Port → FirstParameters → Port
 withBatteryFrom p first =
     cond (leb (first .0) maxLevel && leb (first .1) maxLevel)
@@ -88,6 +88,6 @@ afterBatteryEvent p m = cond (isEvent0 p batteryStatus m) (withBatteryFrom p (m 
 unfoldable pub afterWirelessEvent : Port → Message → Port
 afterWirelessEvent p m = cond (isEvent0 p wirelessStatus m) (withLink p true) p
 
--- where both features hold one index, both rules act
+-- two features may hold the same index: then an event does what both rules say
 unfoldable pub afterEvent : Port → Message → Port
 afterEvent p m = afterWirelessEvent (afterBatteryEvent p m) m

@@ -46,7 +46,7 @@ unchanged answer p = record { answer = answer; port = p }
 abbrev pub isError : ℕ → Bool
 isError byte2 = eqb byte2 error1 || eqb byte2 error2
 
--- the bytes 2 and 3 that the error names are at offsets 3 and 4, the code is at 5
+-- an error has the request's byte 2 at offset 3, its byte 3 at offset 4, and the code at offset 5
 abbrev pub named2 : Message → ℕ
 named2 m = m .byte3
 
@@ -56,7 +56,7 @@ named3 m = m .first .0
 abbrev pub code : Message → ℕ
 code m = m .first .1
 
--- 0xFF fits only requests with byte 2 below 0x40
+-- 0x8F fits any request, 0xFF those whose byte 2 is a feature index
 abbrev pub errorFits : Message → Bool
 errorFits m = eqb (m .byte2 .0) error1 || isFeature (named2 m)
 
@@ -84,7 +84,7 @@ abbrev pub isMajor1 : Version → Bool
 isMajor1 Unknown = false
 isMajor1 (Known major minor) = eqb major 1
 
--- 4. byte 2 below 0x40: version major 1, plain notice; else software id 0, event; else stray
+-- 4. byte 2 is a feature index: a plain notice from a device of version 1; from others an event where the software id is 0, and stray where it is not
 unfoldable pub featureRule : Port → Message → Result
 featureRule p m =
     cond (isMajor1 (p .version)) (unchanged (carried plain m) p)

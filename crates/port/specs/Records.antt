@@ -47,12 +47,12 @@ slotIn (x ∷ xs) feature = cond (eqb feature x) 0 (suc (slotIn xs feature))
 abbrev pub slotOf : ℕ → ℕ
 slotOf feature = slotIn knownFeatures feature
 
--- an emptied place is as fresh
+-- a place where no request waits: fresh, or emptied
 unfoldable pub emptyPlace : Request
 emptyPlace =
     record { byte2 = record { 0 = 0 }; byte3 = 0; first = record { 0 = 0; 1 = 0; 2 = 0 }; ticks = 0 }
 
--- everything unpaired, link down, unknown, 0 or empty
+-- not paired, numbers 0, the link down, version and battery unknown, no index found, four empty places
 unfoldable pub freshPort : Port
 freshPort =
     record {

@@ -1,19 +1,19 @@
 -- Document 01, "Refusal numbers".
 use Prim.Native.Nat.{ℕ}
 
--- take: the report is empty
+-- take: the report has no byte
 abbrev pub emptyReport : ℕ
 emptyReport = 1
 
--- take: byte 0 is none of the four ids
+-- take: byte 0 is no report id
 abbrev pub unknownId : ℕ
 unknownId = 2
 
--- take, mouse: the length isn't that id's; a mouse payload isn't 7 bytes
+-- take: the length is not that of the id; mouse: the payload does not have 7 bytes
 abbrev pub wrongLength : ℕ
 wrongLength = 3
 
--- take: DJ type 0x80 or above, or 0x0E (both go down only)
+-- take: a DJ type that only goes to the receiver, 0x80 and above or 0x0E
 abbrev pub downOnly : ℕ
 downOnly = 4
 
@@ -25,11 +25,11 @@ noSuchPort = 5
 abbrev pub reservedSubId : ℕ
 reservedSubId = 6
 
--- take: radio report or 0x42 for an unpaired device
+-- take: the device is not paired, and the report is a radio report or 0x42
 abbrev pub notPaired : ℕ
 notPaired = 7
 
--- take: radio report of type t, and t > 31 or bit t of the bitfield is 0
+-- take: the device has not declared this type of radio report in its bitfield, or the type is above 31
 abbrev pub notDeclared : ℕ
 notDeclared = 8
 
@@ -37,22 +37,22 @@ notDeclared = 8
 abbrev pub forbidden : ℕ
 forbidden = 9
 
--- all writers: the whole frame or listing doesn't fit between the given place and the buffer's end, or the place lies past the end
+-- all that write: there is too little room for the frame or the listing from the offset to the end of the buffer
 abbrev pub noRoom : ℕ
 noRoom = 10
 
--- request: the port has a waiting request with the same bytes 2 and 3
+-- request: one with these bytes 2 and 3 waits on the port already
 abbrev pub alreadyWaiting : ℕ
 alreadyWaiting = 11
 
--- request: four requests wait on the port
+-- request: every place of the port has a request
 abbrev pub placesFull : ℕ
 placesFull = 12
 
--- cancel: none with those bytes 2 and 3 waits on the port
+-- cancel: no request with these bytes 2 and 3 waits on the port
 abbrev pub notWaiting : ℕ
 notWaiting = 13
 
--- switch: bit 6 or 7 of the device bits is set; asked before 10
+-- switch: a device bit above 5 is set; this comes before 10
 abbrev pub reservedBits : ℕ
 reservedBits = 14

@@ -37,7 +37,7 @@ pub record RequestAt : Type 0 where
   pub port : Port
   pub lent : List ℕ
 
--- a refusal leaves the port and the buffer as they stood
+-- a refusal leaves the port and the buffer as they were
 abbrev pub refusedAt : ℕ → Port → List ℕ → RequestAt
 refusedAt number p lent = record { answer = writing.refused number; port = p; lent = lent }
 

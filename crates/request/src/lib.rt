@@ -52,7 +52,7 @@ fn pending(byte2: FeatureIndex, byte3: u8, ticks: u16, params: &[u8]) -> Request
     }
 }
 
-// A refusal leaves the port as it stood.
+// A refusal leaves the port as it was.
 fn refuse(port: Port, refusal: Refusal) -> PortRequested
     ensures { λ r. ⌜ r ≡ refusedWith port refusal ⌝ }
 {
