@@ -21,7 +21,7 @@ use Rattle.replay_script.specs.ReplayRunLaws.{run-read, share-runs, left-unbrok
 use Rattle.replay.specs.declared.feed.State.{State}
 use Rattle.replay.specs.declared.input.Held.{Held}
 use Rattle.replay.specs.InputContracts.{longest, heldText, heldCut, Moves}
-use Rattle.replay.specs.ReplayHistories.{fromNewline, Pending, toCome, Continues}
+use Rattle.replay_script.specs.ReplayHistories.{fromNewline, Pending, toCome, Continues}
 use Rattle.replay.specs.TurnContracts.{heldOf, pendingOf, pending, AtRead, Uses, Standing}
 use Rattle.replay.specs.HeldLaws.{held-unbroken, held-same}
 

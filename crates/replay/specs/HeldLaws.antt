@@ -15,7 +15,7 @@ use Rattle.replay_line.specs.LineCalls.{lineRule}
 use Rattle.replay_script.specs.ReplayRuns.{newline, Unbroken, none, more, linesAfter, runLines, runRule}
 use Rattle.replay_script.specs.ReplayRunLaws.{unbroken-append, run-read, same-answer, goes-on}
 use Rattle.replay.specs.InputContracts.{isSpare, squeezed, squeezedLine, longest, isCut, shortened, heldText, heldCut}
-use Rattle.replay.specs.ReplayHistories.{fromNewline}
+use Rattle.replay_script.specs.ReplayHistories.{fromNewline}
 use Rattle.replay.specs.CutLaws.{going-on, cut-off}
 
 -- parts of a text without a newline have none

@@ -1,5 +1,4 @@
 pub mod InputContracts
-pub mod ReplayHistories
 pub mod TurnContracts
 pub mod ShortLaws
 pub mod CutLaws
@@ -8,4 +7,3 @@ pub mod MoveLaws
 pub mod HeldLaws
 pub mod FeedLaws
 pub mod TurnLaws
-pub mod ReplayHistoryLaws

@@ -10,7 +10,7 @@ use Rattle.replay_script.specs.ReplayRuns.{Unbroken, Ran}
 use Rattle.replay.specs.declared.feed.State.{State}
 use Rattle.replay.specs.declared.Outcome.{Outcome}
 use Rattle.replay.specs.InputContracts.{longest}
-use Rattle.replay.specs.ReplayHistories.{Pending, atStart, Continues, Ends}
+use Rattle.replay_script.specs.ReplayHistories.{Pending, atStart, Continues, Ends}
 
 -- the bytes of the buffer that are not yet answered
 abbrev pub heldOf : State → List ℕ → List ℕ

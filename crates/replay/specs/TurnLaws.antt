@@ -12,7 +12,7 @@ use Rattle.station.specs.Stations.{freshStation}
 use Rattle.replay_script.specs.ReplayRuns.{Unbroken, none}
 use Rattle.replay.specs.declared.feed.State.{State}
 use Rattle.replay.specs.declared.Outcome.{Outcome}
-use Rattle.replay.specs.ReplayHistories.{Pending, Continues, Ends}
+use Rattle.replay_script.specs.ReplayHistories.{Pending, Continues, Ends}
 use Rattle.replay.specs.TurnContracts.{heldOf, pendingOf, endedBy, Uses, Standing, Large, Starts, Turned}
 
 -- the size of either buffer

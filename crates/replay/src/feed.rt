@@ -4,7 +4,7 @@ ghost use mathlib.Core.Path.{_≡_};
 ghost use mathlib.Core.Bool.{true};
 ghost use mathlib.Core.List.{[]};
 ghost use lib.ListN.{length, take, drop};
-ghost use Rattle.replay.specs.ReplayHistories.{Continues, Ends};
+ghost use Rattle.replay_script.specs.ReplayHistories.{Continues, Ends};
 ghost use Rattle.replay.specs.TurnContracts.{pending, heldOf, pendingOf, endedBy, Uses, Standing, Large, Starts};
 use crate::input;
 use bytes::scan;

@@ -3,4 +3,6 @@ pub mod Shares
 pub mod ScriptContracts
 pub mod ShareLaws
 pub mod ReplayRunLaws
+pub mod ReplayHistories
+pub mod ReplayHistoryLaws
 pub mod ReplayExamples

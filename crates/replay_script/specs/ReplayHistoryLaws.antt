@@ -3,8 +3,8 @@ use Prim.Native.Nat.{ℕ}
 use mathlib.Core.Path.{_≡_, refl, sym, _∙_, ap}
 use mathlib.Core.List.{List, [], _∷_, _++_, append-assoc, append-nil}
 use Rattle.station.specs.Stations.{freshStation}
 use Rattle.replay_script.specs.ReplayRuns.{Ran, before, runRule}
-use Rattle.replay.specs.ReplayHistories.{Pending, atStart, toCome, Turn, Kept, last, inputs, texts, Ends, ByTheRun}
+use Rattle.replay_script.specs.ReplayHistories.{Pending, atStart, toCome, Turn, Kept, last, inputs, texts, Ends, ByTheRun}
 
 kept-run : (p : Pending) (ts : List Turn) (unread : List ℕ) → Kept p ts → toCome p (inputs ts ++ unread) ≡ before (texts ts) (toCome (last p ts) unread)
 unfolding Kept last inputs texts
