@@ -1,9 +1,3 @@
-pub mod InputContracts
-pub mod TurnContracts
-pub mod ShortLaws
-pub mod CutLaws
-pub mod SqueezeLaws
-pub mod MoveLaws
-pub mod HeldLaws
-pub mod FeedLaws
-pub mod TurnLaws
+pub mod ReplayTurns
+pub mod ReplayTurnLaws
+pub mod ReplayTurnExamples

@@ -3,6 +3,4 @@ pub mod Shares
 pub mod ScriptContracts
 pub mod ShareLaws
 pub mod ReplayRunLaws
-pub mod ReplayHistories
-pub mod ReplayHistoryLaws
 pub mod ReplayExamples
