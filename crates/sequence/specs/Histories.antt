@@ -56,9 +56,9 @@ History st [] = Unit {0}
 History st (m ∷ ms) = Ensured st (m .call) (m .outcome) × History (m .outcome .station) ms
 
 -- the station at its end
-unfoldable pub last : Station → List Made → Station
-last st [] = st
-last st (m ∷ ms) = last (m .outcome .station) ms
+unfoldable pub stationAfter : Station → List Made → Station
+stationAfter st [] = st
+stationAfter st (m ∷ ms) = stationAfter (m .outcome .station) ms
 
 -- its transcript: each call, the port that it is for, and what the program returned
 unfoldable pub made : Station → List Made → List Entry
@@ -67,12 +67,12 @@ made st (m ∷ ms) = entry st (m .call) (m .outcome) ∷ made (m .outcome .stati
 
 -- every answer, every lent byte and the final station of a history are those of the rules' run
 pub record ByTheRules (st : Station) (ms : List Made) : Type 0 where
-  pub station : last st ms ≡ run st (map callOf ms)
+  pub station : stationAfter st ms ≡ run st (map callOf ms)
   pub entries : made st ms ≡ transcript st (map callOf ms)
 
 -- the second history makes the calls that remain of the first for the port of a number
 pub record AloneInProgram (n : ℕ) (st : Station) (ms ns : List Made) : Type 0 where
-  pub holds : view n (last st ms) ≡ view n (last st ns)
+  pub holds : view n (stationAfter st ms) ≡ view n (stationAfter st ns)
   pub returns : compared n (remaining n (made st ms)) ≡ compared n (made st ns)
 
 -- striking out leaves, for each port, the same calls in the same order
