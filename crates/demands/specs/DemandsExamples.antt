@@ -48,7 +48,7 @@ use Rattle.sequence.specs.Independence.{Alone}
 use Rattle.sequence.specs.Histories.{Ensured, Made, callOf, History, stationAfter, made}
 use Rattle.reach.specs.Sound.{Reached}
 use Rattle.reach.specs.CallCases.{AllPlaced, ByCases}
-use Rattle.reach.specs.RefusalTable.{led5, Row, RefusedWith}
+use Rattle.reach.specs.RefusalTable.{led5, RefusalRow, RefusedWith}
 use Rattle.reach.specs.Completion.{isReply, isFailure, isHidppRead, Replies, Fails, readEnds, endsIn}
 use Rattle.reach.specs.Ends.{byReply, byError, byExpiry, byCancel, byDrop, endingOf, endedInAll, waitingOn, endedIn, begunIn}
 use Rattle.reach.specs.Fields.{battery}
@@ -77,7 +77,7 @@ module _ (d : Demands) where
       d .refuses st placed (write (led 7 leds) offset lent) (writeStep st (writtenOutcome r after)) e 5 .1 (led5 refl)
 
   -- and a number that is answered has its row
-  has-row : (st : Station) → AllPlaced st → (c : Call) (o : Outcome) → Ensured st c o → (number : ℕ) → RefusedWith (o .answer) number → Row st c number
+  has-row : (st : Station) → AllPlaced st → (c : Call) (o : Outcome) → Ensured st c o → (number : ℕ) → RefusedWith (o .answer) number → RefusalRow st c number
   has-row st placed c o e number = d .refuses st placed c o e number .0
 
   -- a refused request leaves the station, and the buffer

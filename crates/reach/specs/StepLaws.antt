@@ -45,7 +45,7 @@ use Rattle.reach.specs.CallCasesLaws.{and-false, empty-place, step-case}
 use Rattle.reach.specs.Ends.{isTick, takeEnding, Way, byReply, byError, byExpiry, byCancel, byDrop, isWay, endingOf, nothing, endsBy, oneIf, begunOn, Fate, stays, lowered, filled, emptied, waitingOn, EndsAt, endedIn, begunIn, Accounted}
 use Rattle.reach.specs.EndsLaws.{Elsewhere, sum-zero, Change, same, empties, EndingAt, elsewhere as ends-elsewhere, hidpp-ends, dj-ends, cancel-ends, hidpp-apart, dj-apart, cancel-apart}
 use Rattle.reach.specs.Fields.{Field, takeLists, ChangesListed, Same}
-use Rattle.reach.specs.FieldsLaws.{Keeps, kept, keeps-all, hidpp-keeps, dj-keeps, request-keeps, cancel-keeps, tick-keeps}
+use Rattle.reach.specs.FieldsLaws.{Keeps, unlisted-kept, keeps-all, hidpp-keeps, dj-keeps, request-keeps, cancel-keeps, tick-keeps}
 
 pub all-placed : {st : Station} → Reached st → AllPlaced st
 all-placed k position h = k .each position h .waiting .all
@@ -180,7 +180,7 @@ module _ (st : Station) (k : Reached st) where
       record {
         reached = k;
         ends = λ n h. ends-only n c a t (z n) (e n);
-        changes = λ n h. kept (keeps-all _ (view n st));
+        changes = λ n h. unlisted-kept (keeps-all _ (view n st));
       }
 
   nothing-ends : (n : ℕ) → EndingAt n nothing (view n st) (view n st)
@@ -188,14 +188,14 @@ module _ (st : Station) (k : Reached st) where
 
   -- what is listed at the port that a call names
   listed-at : {number device : ℕ} {listed : Field → Bool} {p q : Port} → number ≡ device → Keeps listed p q → (f : Field) → (eqb number device && listed f) ≡ false → Same f p q
-  listed-at {number} {device} e s f h = kept s f (simp (eq-eqb number device e) at h)
+  listed-at {number} {device} e s f h = unlisted-kept s f (simp (eq-eqb number device e) at h)
 
   taken-at : (bytes : List ℕ) (device : ℕ) (x : Result) → isPort device ≡ true → byte bytes 1 ≡ device → SoundPort (positionOf device) (x .port) → EndingAt device (takeEnding (x .answer)) (view device st) (x .port) → ((n : ℕ) → eqb device n ≡ false → Elsewhere n (takeEnding (x .answer))) → Keeps (takeLists (view device st) (x .answer)) (view device st) (x .port) → Steps st (take bytes) (takeStep bytes (storedAt st (positionOf device) x))
   taken-at bytes device x d e sound ends apart fields =
       record {
         reached = reached-with (positionOf device) (position-within device) (x .port) sound;
         ends = λ n h. at-port (λ i p q. EndsAt i (take bytes) (taken (x .answer)) p q) device n (x .port) d h (ends-only device (take bytes) (taken (x .answer)) refl refl ends) (λ z. ends-only n (take bytes) (taken (x .answer)) refl refl (ends-elsewhere n (view n st) (view n st) (takeEnding (x .answer)) (apart n z) refl));
-        changes = λ n h. at-port (λ i p q. ChangesListed i (take bytes) (taken (x .answer)) p q) device n (x .port) d h (listed-at e fields) (λ z. kept (keeps-all _ (view n st)));
+        changes = λ n h. at-port (λ i p q. ChangesListed i (take bytes) (taken (x .answer)) p q) device n (x .port) d h (listed-at e fields) (λ z. unlisted-kept (keeps-all _ (view n st)));
       }
 
   device-in : (start : ℕ) (bytes : List ℕ) {r : Report} → r ≡ reportFrom start bytes → byte bytes 1 ≡ r .device
@@ -214,7 +214,7 @@ module _ (st : Station) (k : Reached st) where
           each = λ position h. subst (SoundPort position) (sym (ticked-at st position)) (tick-sound position (portAt st position) (k .each position h));
         };
         ends = λ n h. subst (EndsAt n tick (ticked (tickAll st .ended)) (view n st)) (sym (ticked-at st (positionOf n))) (tick-ends n (tickAll st .ended) (view n st) (counted-at st (positionOf n)));
-        changes = λ n h. subst (ChangesListed n tick (ticked (tickAll st .ended)) (view n st)) (sym (ticked-at st (positionOf n))) (kept (tick-keeps (view n st)));
+        changes = λ n h. subst (ChangesListed n tick (ticked (tickAll st .ended)) (view n st)) (sym (ticked-at st (positionOf n))) (unlisted-kept (tick-keeps (view n st)));
       }
 
   case-steps : {c : Call} {o : Outcome} → StepCase st c o → Steps st c o
@@ -236,7 +236,7 @@ module _ (st : Station) (k : Reached st) where
       record {
         reached = reached-with (positionOf device) (position-within device) (x .port) (request-sound _ _ s h);
         ends = λ n g. at-port (λ i p q. EndsAt i c (written (x .answer)) p q) device n (x .port) e g (filled-at device byte2 byte3 ticks params offset lent _ (s .waiting .all) h) (λ z. ends-only n c (written (x .answer)) refl (simp z) (nothing-ends n));
-        changes = λ n g. at-port (λ i p q. ChangesListed i c (written (x .answer)) p q) device n (x .port) e g (listed-at {number = device} refl (request-keeps h)) (λ z. kept (keeps-all _ (view n st)));
+        changes = λ n g. at-port (λ i p q. ChangesListed i c (written (x .answer)) p q) device n (x .port) e g (listed-at {number = device} refl (request-keeps h)) (λ z. unlisted-kept (keeps-all _ (view n st)));
       }
   case-steps (cancel5 e) = idle refl (λ n. refl) nothing-ends [] []
   case-steps (cancelAtPort {device} {byte2} {byte3} {x} e h) =
@@ -245,14 +245,14 @@ module _ (st : Station) (k : Reached st) where
       record {
         reached = reached-with (positionOf device) (position-within device) (x .port) (cancel-sound _ _ s h);
         ends = λ n g. at-port (λ i p q. EndsAt i c (cancelled (x .answer)) p q) device n (x .port) e g (ends-only device c (cancelled (x .answer)) refl refl (cancel-ends _ (s .waiting) device h)) (λ z. ends-only n c (cancelled (x .answer)) refl refl (ends-elsewhere n (view n st) (view n st) _ (cancel-apart n device h z) refl));
-        changes = λ n g. at-port (λ i p q. ChangesListed i c (cancelled (x .answer)) p q) device n (x .port) e g (listed-at {number = device} refl (cancel-keeps h)) (λ z. kept (keeps-all _ (view n st)));
+        changes = λ n g. at-port (λ i p q. ChangesListed i c (cancelled (x .answer)) p q) device n (x .port) e g (listed-at {number = device} refl (cancel-keeps h)) (λ z. unlisted-kept (keeps-all _ (view n st)));
       }
   case-steps tickAllPorts = on-tick
   case-steps (writeOnly {writer} {offset} {lent}) =
       record {
         reached = k;
         ends = λ n h. ends-only n (write writer offset lent) (written _) refl refl (nothing-ends n);
-        changes = λ n h. kept (keeps-all _ (view n st));
+        changes = λ n h. unlisted-kept (keeps-all _ (view n st));
       }
 
   steps : (c : Call) → Steps st c (step st c)
