@@ -33,8 +33,8 @@ fieldNames =
     ∷ ascii "waiting"
     ∷ []
 
-unfoldable pub header : List ℕ
-header = tabbed fieldNames
+unfoldable pub headerLine : List ℕ
+headerLine = tabbed fieldNames
 
 -- the fields in the header's order: hexadecimal at fixed width, others decimal
 unfoldable pub deviceLine : (number : ℕ) → Port → List ℕ
@@ -64,7 +64,7 @@ lines ports = each (λ (position : ℕ) (p : Port). deviceText (position + 1) p)
 
 -- header first, then paired devices in number order
 unfoldable pub listing : List Port → List ℕ
-listing ports = header ++ lines ports
+listing ports = headerLine ++ lines ports
 
 -- the whole listing, or 10
 unfoldable pub listingRule : List Port → ℕ → List ℕ → WriteOutcome

@@ -21,7 +21,7 @@ use Rattle.hidpp.specs.declared.Message.{Message}
 use Rattle.hidpp.specs.HidppRecords.{afterReply, afterError, afterEvent}
 use Rattle.hidpp.specs.HidppTaking.{messageOf, about, carried, isError, named2, named3, code, errorFits, kindOf, isMajor1, takeHidpp}
 use Rattle.dj.specs.DjTaking.{isDeclared, radioAnswer, isMore, wpidOf, reportsOf, isPairedWith, isUp}
-use Rattle.request.specs.Requesting.{isForbidden, pendingOf, RequestAt, refusedAt, withWaiting, requestAt}
+use Rattle.request.specs.Requesting.{isForbidden, waitingRequest, RequestAt, refusedAt, withWaiting, requestAt}
 use Rattle.station.specs.declared.Station.{Station}
 use Rattle.station.specs.Stations.{portCount, positionOf, portAt}
 use Rattle.station.specs.StationTaking.{storedAt}
@@ -149,7 +149,7 @@ module _ (p : Port) (device byte2 byte3 ticks : ℕ) (params : List ℕ) (offset
     -- the frame is written, and the request waits in the lowest empty place
     accepted : Writable → ¬ Waits p byte2 byte3 → countWaiting (p .places) < placeCount → RequestCase (record {
       answer = writing.wrote (length frame);
-      port = withWaiting p (firstAt isEmpty (p .places)) (pendingOf byte2 byte3 ticks params);
+      port = withWaiting p (firstAt isEmpty (p .places)) (waitingRequest byte2 byte3 ticks params);
       lent = writing.pasted frame offset lent;
     })
 

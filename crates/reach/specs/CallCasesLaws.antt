@@ -24,7 +24,7 @@ use Rattle.port.specs.Answers.{Answer, refused, reply, stray, plain, event, fai
 use Rattle.hidpp.specs.declared.Message.{Message}
 use Rattle.hidpp.specs.HidppTaking.{messageOf, errorFits, named2, named3, errorRule, replyRule, featureRule, unaskedRule, takeHidpp}
 use Rattle.dj.specs.DjTaking.{radioRule, unpairedRule, pairedRule, linkRule, otherRule, takeDj}
-use Rattle.request.specs.Requesting.{RequestAt, pendingOf, requestBy, requestAt}
+use Rattle.request.specs.Requesting.{RequestAt, waitingRequest, requestBy, requestAt}
 use Rattle.station.specs.declared.Station.{Station}
 use Rattle.station.specs.Stations.{positionOf}
 use Rattle.station.specs.StationsLaws.{position-within}
@@ -200,7 +200,7 @@ module _ (p : Port) (placed : Placed p) (device byte2 byte3 ticks : ℕ) (params
   Refusing = RequestRefused p device byte2 byte3 ticks params offset lent
 
   abbrev Into : waiting.Room → Type 0
-  Into room = Given (requestBy room p (pendingOf byte2 byte3 ticks params) (writing.requestFrame device byte2 byte3 params) offset lent)
+  Into room = Given (requestBy room p (waitingRequest byte2 byte3 ticks params) (writing.requestFrame device byte2 byte3 params) offset lent)
 
   pub request-case : Given given
   unfolding requestAt requestBy roomFor

@@ -21,7 +21,7 @@ use Rattle.port.specs.Places.{isEmpty, firstAt, sumOver, oneIfWaiting, countWai
 use Rattle.port.specs.Ticks.{afterTick, oneIfEnding, tickRule}
 use Rattle.port.specs.Answers.{Result}
 use Rattle.hidpp.specs.HidppTaking.{messageOf}
-use Rattle.request.specs.Requesting.{RequestAt, pendingOf}
+use Rattle.request.specs.Requesting.{RequestAt, waitingRequest}
 use Rattle.station.specs.declared.Station.{Station}
 use Rattle.station.specs.Stations.{portCount, positionOf, freshStation, noPort, portAt, withPort}
 use Rattle.station.specs.StationsLaws.{position-within}
@@ -61,7 +61,7 @@ ends-only n c a t z e =
 
 -- a request that is accepted fills the lowest empty place
 filled-at : (n byte2 byte3 ticks : ℕ) (params : List ℕ) (offset : ℕ) (lent : List ℕ) (p : Port) {r : RequestAt} → Placed p → RequestCase p n byte2 byte3 ticks params offset lent r → EndsAt n (request n byte2 byte3 ticks params offset lent) (written (r .answer)) p (r .port)
-unfolding withPlaces pendingOf
+unfolding withPlaces waitingRequest
 filled-at n byte2 byte3 ticks params offset lent p placed (requestRefused h) =
     ends-only n (request n byte2 byte3 ticks params offset lent) (written (writing.refused _)) refl (simp (eq-eqb n n refl)) (ends-elsewhere n p p nothing tt refl)
 filled-at n byte2 byte3 ticks params offset lent p {r} placed (accepted f _ l) =
@@ -75,7 +75,7 @@ filled-at n byte2 byte3 ticks params offset lent p {r} placed (accepted f _ l) =
     free = firstAt isEmpty (p .places)
 
     new : Request
-    new = pendingOf byte2 byte3 ticks params
+    new = waitingRequest byte2 byte3 ticks params
 
     within : firstAt isEmpty (p .places) < length (p .places)
     within = empty-place p placed l
@@ -86,16 +86,16 @@ filled-at n byte2 byte3 ticks params offset lent p {r} placed (accepted f _ l) =
     before : oneIfWaiting (requestIn (p .places) (firstAt isEmpty (p .places))) ≡ 0
     before = ap (λ (b : Bool). cond b 0 1) was
 
-    after : oneIfWaiting (pendingOf byte2 byte3 ticks params) ≡ 1
+    after : oneIfWaiting (waitingRequest byte2 byte3 ticks params) ≡ 1
     after = simp (ne-eqb ticks 0 (omega (arith, allowed byte2 byte3 ticks params (f .allowed) .0 .0)))
 
-    go : (place : ℕ) → Dec (place ≡ firstAt isEmpty (p .places)) → Fate n (request n byte2 byte3 ticks params offset lent) (written (r .answer)) (requestIn (p .places) place) (requestIn (set (p .places) (firstAt isEmpty (p .places)) (pendingOf byte2 byte3 ticks params)) place)
+    go : (place : ℕ) → Dec (place ≡ firstAt isEmpty (p .places)) → Fate n (request n byte2 byte3 ticks params offset lent) (written (r .answer)) (requestIn (p .places) place) (requestIn (set (p .places) (firstAt isEmpty (p .places)) (waitingRequest byte2 byte3 ticks params)) place)
     go place (yes e) =
         filled byte2 byte3 ticks params offset lent refl refl
         (subst (λ (i : ℕ). isEmpty (requestIn (p .places) i) ≡ true) (sym e) was)
-        (subst (λ (i : ℕ). requestIn (set (p .places) (firstAt isEmpty (p .places)) (pendingOf byte2 byte3 ticks params)) i ≡ pendingOf byte2 byte3 ticks params) (sym e) (getD-set-same (p .places) (firstAt isEmpty (p .places)) (pendingOf byte2 byte3 ticks params) emptyPlace within))
+        (subst (λ (i : ℕ). requestIn (set (p .places) (firstAt isEmpty (p .places)) (waitingRequest byte2 byte3 ticks params)) i ≡ waitingRequest byte2 byte3 ticks params) (sym e) (getD-set-same (p .places) (firstAt isEmpty (p .places)) (waitingRequest byte2 byte3 ticks params) emptyPlace within))
     go place (no e) =
-        stays (λ w. refl) refl (getD-set-other (p .places) (firstAt isEmpty (p .places)) place (pendingOf byte2 byte3 ticks params) emptyPlace e)
+        stays (λ w. refl) refl (getD-set-other (p .places) (firstAt isEmpty (p .places)) place (waitingRequest byte2 byte3 ticks params) emptyPlace e)
 
 -- a tick ends those with one tick left
 tick-place : (r : Request) → oneIfWaiting (afterTick r) + oneIfEnding r ≡ oneIfWaiting r

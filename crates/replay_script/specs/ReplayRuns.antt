@@ -6,7 +6,7 @@ use mathlib.Core.List.{List, [], _∷_, _++_}
 use lib.Dec.{eqb}
 use Rattle.station.specs.declared.Station.{Station}
 use Rattle.replay_line.specs.LineCalls.{lineRule}
-use Rattle.replay_desk.specs.LineAnswers.{Answer, commandRule}
+use Rattle.replay_desk.specs.LineAnswers.{LineAnswer, commandRule}
 
 abbrev pub newline : ℕ
 newline = 10
@@ -33,7 +33,7 @@ abbrev pub nextNumber : ℕ → ℕ
 nextNumber number = (number + 1) % 2 ^ 64
 
 -- what the line after this number of lines gives
-abbrev pub answerTo : Station → (number : ℕ) → (line : List ℕ) → Answer
+abbrev pub answerTo : Station → (number : ℕ) → (line : List ℕ) → LineAnswer
 answerTo st number line = commandRule st (nextNumber number) (lineRule line)
 
 -- what a run gives: the answers end to end, the last station, and the number of lines
