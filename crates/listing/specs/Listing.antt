@@ -4,7 +4,7 @@ use mathlib.Core.List.{List, [], _∷_, _++_}
 use mathlib.Core.Bool.{cond}
 use lib.ListN.{length, take}
 use Rattle.report.specs.Ports.{deviceCount}
-use Rattle.text.specs.Words.{ascii, hex, decimal}
+use Rattle.text.specs.Words.{ascii, newline, hex, decimal}
 use Rattle.text.specs.Texts.{each, digits16, digits32, byteMost, linkText, linkMost, versionText, versionMost, batteryText, batteryMost}
 use Rattle.frame.specs.Writing.{WriteOutcome, frameAt}
 use Rattle.port.specs.Places.{countWaiting}
@@ -12,9 +12,6 @@ use Rattle.port.specs.declared.Port.{Port}
 
 abbrev pub tab : ℕ
 tab = 9
-
-abbrev pub newline : ℕ
-newline = 10
 
 -- tabs between fields, and a newline at the end
 abbrev pub tabbed : List (List ℕ) → List ℕ
