@@ -37,7 +37,7 @@ abbrev pub stepped : steps.Outcome → LineAnswer
 stepped o = record { text = callText (o .answer) (o .lent); station = o .station }
 
 -- the call that each writer is; a frame alone needs no station
-unfoldable pub writerStep : Station → commands.Writer → (offset : ℕ) → (params lent : List ℕ) → steps.Outcome
+unfoldable pub writerStep : Station → commands.LineWriter → (offset : ℕ) → (params lent : List ℕ) → steps.Outcome
 writerStep st (commands.request port byte2 byte3 ticks) offset params lent =
     steps.step st (steps.request port byte2 byte3 ticks params offset lent)
 writerStep st (commands.switch bits timeout) offset params lent =

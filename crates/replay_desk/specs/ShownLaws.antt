@@ -16,7 +16,7 @@ use Rattle.text.specs.PuttingLaws.{whole-with-room}
 use Rattle.replay_line.specs.Commands.{Command}
 use Rattle.replay_line.specs.LineFields.{mostLent}
 use Rattle.replay_line.specs.LineCalls.{lineRule}
-use Rattle.replay_line.specs.LineContracts.{roomOf}
+use Rattle.replay_line.specs.LineContracts.{lentRoom}
 use Rattle.replay_line.specs.LineBoundsLaws.{line-lends}
 use Rattle.replay_render.specs.AnswerLines.{writtenMost}
 use Rattle.replay_desk.specs.declared.Shown.{Shown}
@@ -49,8 +49,8 @@ pub lent-size : (x room n : ℕ) → room ≤ n → room ≡ length (take room (
 lent-size x room n h = sym (ap length (front x room n h) ∙ length-replicate room x)
 
 -- a line is lent no more than the longest buffer
-pub lends-little : (line : List ℕ) (command : Command) → command ≡ lineRule line → roomOf command ≤ mostLent
-lends-little line command e = subst (λ (c : Command). roomOf c ≤ mostLent) (sym e) (line-lends line)
+pub lends-little : (line : List ℕ) (command : Command) → command ≡ lineRule line → lentRoom command ≤ mostLent
+lends-little line command e = subst (λ (c : Command). lentRoom c ≤ mostLent) (sym e) (line-lends line)
 
 -- a line whose answer has its room
 module _ (st : Station) (number : ℕ) (line : List ℕ) (at : ℕ) (b : List ℕ) where
