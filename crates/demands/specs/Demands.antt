@@ -22,7 +22,7 @@ use Rattle.sequence.specs.Sentence.{sentence}
 use Rattle.sequence.specs.Refused.{isRefusal}
 use Rattle.sequence.specs.Transcripts.{callsOf, transcript}
 use Rattle.sequence.specs.Remaining.{portFor, view, remaining, comparedOf, compared}
-use Rattle.sequence.specs.Histories.{Ensured, Made, callOf, History, last, made}
+use Rattle.sequence.specs.Histories.{Ensured, Made, callOf, History, stationAfter, made}
 use Rattle.reach.specs.Sound.{Reached}
 use Rattle.reach.specs.CallCases.{AllPlaced}
 use Rattle.reach.specs.RefusalTable.{ByTheTable}
@@ -62,24 +62,24 @@ pub record Demands : Type 0 where
   pub counts : (st : Station) → Reached st → (c : Call) (o : Outcome) → Ensured st c o → (n : ℕ) → isPort n ≡ true → EndsAt n c (o .answer) (portFor st n) (portFor (o .station) n)
   -- Demand 3, for every history: calls that the program made, in any order, with any arguments and any lent bytes, refused ones included; the first on a start, which a new station is, each later one on the station that the call before it handed back or left
   pub begins : (r : Station) → new-reads.Learnt tt tt r tt → Start r
-  pub reached : (st : Station) → Start st → (ms : List Made) → History st ms → Reached (last st ms)
+  pub reached : (st : Station) → Start st → (ms : List Made) → History st ms → Reached (stationAfter st ms)
   -- Every answer and the lent bytes after every call are those that the rules give, and so is the station at the end
   pub every-answer : (st : Station) (ms : List Made) → History st ms → made st ms ≡ transcript st (map callOf ms)
-  pub final-station : (st : Station) (ms : List Made) → History st ms → last st ms ≡ run st (map callOf ms)
+  pub final-station : (st : Station) (ms : List Made) → History st ms → stationAfter st ms ≡ run st (map callOf ms)
   -- For each port, strike out every call for another port or for none, and keep the ticks: which calls these are, document 01 says by the answer
   pub struck : (st : Station) (c : Call) (o : Outcome) → Ensured st c o → labelOf st c ≡ sentence c (o .answer)
   -- What remains, run from the same start: at its end the port holds exactly what it holds after the full run
-  pub holds : (n : ℕ) → isPort n ≡ true → (st : Station) → Start st → (ms ns : List Made) → History st ms → History st ns → map callOf ns ≡ callsOf (remaining n (made st ms)) → view n (last st ms) ≡ view n (last st ns)
+  pub holds : (n : ℕ) → isPort n ≡ true → (st : Station) → Start st → (ms ns : List Made) → History st ms → History st ns → map callOf ns ≡ callsOf (remaining n (made st ms)) → view n (stationAfter st ms) ≡ view n (stationAfter st ns)
   -- Each call that remains gives the same answer and leaves the same lent bytes; of a tick's answer, that port's count is compared
   pub returns : (n : ℕ) → isPort n ≡ true → (st : Station) → Start st → (ms ns : List Made) → History st ms → History st ns → map callOf ns ≡ callsOf (remaining n (made st ms)) → compared n (remaining n (made st ms)) ≡ compared n (made st ns)
   pub compares-all : (n number : ℕ) (o q : Outcome) → comparedOf n (one number) (returned o) ≡ comparedOf n (one number) (returned q) → (o .answer ≡ q .answer) × ((o .read ≡ q .read) × (o .lent ≡ q .lent))
   pub compares-count : (n : ℕ) (o q : Outcome) (xs ys : List ℕ) → o .answer ≡ ticked xs → q .answer ≡ ticked ys → comparedOf n all (returned o) ≡ comparedOf n all (returned q) → getD xs (positionOf n) 0 ≡ getD ys (positionOf n) 0
   -- So any two orders that keep each port's own calls and the ticks in sequence end in the same station
-  pub orders : (st : Station) → Start st → (ms ns : List Made) → History st ms → History st ns → ((n : ℕ) → isPort n ≡ true → callsOf (remaining n (made st ms)) ≡ callsOf (remaining n (made st ns))) → last st ms ≡ last st ns
+  pub orders : (st : Station) → Start st → (ms ns : List Made) → History st ms → History st ns → ((n : ℕ) → isPort n ≡ true → callsOf (remaining n (made st ms)) ≡ callsOf (remaining n (made st ns))) → stationAfter st ms ≡ stationAfter st ns
   -- A history may be cut anywhere: its second part is a history from where the first one ends
-  pub cut : (st : Station) (ms ns : List Made) → History st (ms ++ ns) → History st ms × History (last st ms) ns
+  pub cut : (st : Station) (ms ns : List Made) → History st (ms ++ ns) → History st ms × History (stationAfter st ms) ns
   -- Over every history and for each port: requests accepted are those answered by reply, by error, expired, cancelled, dropped, and those that wait, counted from the answers given
-  pub accounted : (n : ℕ) → isPort n ≡ true → (st : Station) → Start st → (ms : List Made) → History st ms → Accounted n (made st ms) (portFor (last st ms) n)
+  pub accounted : (n : ℕ) → isPort n ≡ true → (st : Station) → Start st → (ms : List Made) → History st ms → Accounted n (made st ms) (portFor (stationAfter st ms) n)
   -- A run of encoded calls by the program, `encoded::run_encoded`: where the bytes are calls and there is room for their answers, the final station, every lent byte and every row are those of the rules' run; and the rows read back as the answers
   pub runs : (κ κ′ κ″ : List ℕ) (st : Station) (encoded arena arenaAfter answers answersAfter : RefT (List ℕ)) (r : RunResult) → run-reads.Learnt (κ, (κ′, (κ″, tt))) (st, (encoded, (arena, (answers, tt)))) r (st, (encoded, (arenaAfter, (answersAfter, tt)))) → (cs : List Call) → decode (now encoded) (now arena) ≡ calls cs → rowsSize cs ≤ length (now answers) → outcomeOf r (now arenaAfter) (now answersAfter) ≡ ran st cs (now answers)
   pub rows : (κ κ′ κ″ : List ℕ) (st : Station) (encoded arena arenaAfter answers answersAfter : RefT (List ℕ)) (r : RunResult) → run-reads.Learnt (κ, (κ′, (κ″, tt))) (st, (encoded, (arena, (answers, tt)))) r (st, (encoded, (arenaAfter, (answersAfter, tt)))) → length (st .ports) ≡ portCount → (cs : List Call) → decode (now encoded) (now arena) ≡ calls cs → rowsSize cs ≤ length (now answers) → Bytes (now encoded) → Bytes (now arena) → ReadsBack st cs (now answersAfter)

@@ -45,10 +45,10 @@ use Rattle.sequence.specs.Refused.{isRefusal}
 use Rattle.sequence.specs.Transcripts.{callsOf, transcript}
 use Rattle.sequence.specs.Remaining.{portFor, view, remaining, comparedOf, compared}
 use Rattle.sequence.specs.Independence.{Alone}
-use Rattle.sequence.specs.Histories.{Ensured, Made, callOf, History, last, made}
+use Rattle.sequence.specs.Histories.{Ensured, Made, callOf, History, stationAfter, made}
 use Rattle.reach.specs.Sound.{Reached}
 use Rattle.reach.specs.CallCases.{AllPlaced, ByCases}
-use Rattle.reach.specs.RefusalTable.{led5, Row, RefusedWith}
+use Rattle.reach.specs.RefusalTable.{led5, RefusalRow, RefusedWith}
 use Rattle.reach.specs.Completion.{isReply, isFailure, isHidppRead, Replies, Fails, readEnds, endsIn}
 use Rattle.reach.specs.Ends.{byReply, byError, byExpiry, byCancel, byDrop, endingOf, endedInAll, waitingOn, endedIn, begunIn}
 use Rattle.reach.specs.Fields.{battery}
@@ -77,7 +77,7 @@ module _ (d : Demands) where
       d .refuses st placed (write (led 7 leds) offset lent) (writeStep st (writtenOutcome r after)) e 5 .1 (led5 refl)
 
   -- and a number that is answered has its row
-  has-row : (st : Station) → AllPlaced st → (c : Call) (o : Outcome) → Ensured st c o → (number : ℕ) → RefusedWith (o .answer) number → Row st c number
+  has-row : (st : Station) → AllPlaced st → (c : Call) (o : Outcome) → Ensured st c o → (number : ℕ) → RefusedWith (o .answer) number → RefusalRow st c number
   has-row st placed c o e number = d .refuses st placed c o e number .0
 
   -- a refused request leaves the station, and the buffer
@@ -147,7 +147,7 @@ module _ (d : Demands) where
   new-begins : (r : Station) → new-reads.Learnt tt tt r tt → Start r
   new-begins = d .begins
 
-  invariant-holds : (st : Station) → Start st → (ms : List Made) → History st ms → Reached (last st ms)
+  invariant-holds : (st : Station) → Start st → (ms : List Made) → History st ms → Reached (stationAfter st ms)
   invariant-holds = d .reached
 
   module _ (st : Station) (begins : Start st) (ms ns : List Made) (k : History st ms) (l : History st ns) where
@@ -156,21 +156,21 @@ module _ (d : Demands) where
     same-answers e =
         d .every-answer st ms k ∙ ap (transcript st) e ∙ sym (d .every-answer st ns l)
 
-    same-end : map callOf ms ≡ map callOf ns → last st ms ≡ last st ns
+    same-end : map callOf ms ≡ map callOf ns → stationAfter st ms ≡ stationAfter st ns
     same-end e = d .final-station st ms k ∙ ap (run st) e ∙ sym (d .final-station st ns l)
 
     -- device 2 by itself: what it holds, and what its calls return
-    device-2-holds : map callOf ns ≡ callsOf (remaining 2 (made st ms)) → view 2 (last st ms) ≡ view 2 (last st ns)
+    device-2-holds : map callOf ns ≡ callsOf (remaining 2 (made st ms)) → view 2 (stationAfter st ms) ≡ view 2 (stationAfter st ns)
     device-2-holds = d .holds 2 refl st begins ms ns k l
 
     device-2-returns : map callOf ns ≡ callsOf (remaining 2 (made st ms)) → compared 2 (remaining 2 (made st ms)) ≡ compared 2 (made st ns)
     device-2-returns = d .returns 2 refl st begins ms ns k l
 
-    any-order : ((n : ℕ) → isPort n ≡ true → callsOf (remaining n (made st ms)) ≡ callsOf (remaining n (made st ns))) → last st ms ≡ last st ns
+    any-order : ((n : ℕ) → isPort n ≡ true → callsOf (remaining n (made st ms)) ≡ callsOf (remaining n (made st ns))) → stationAfter st ms ≡ stationAfter st ns
     any-order = d .orders st begins ms ns k l
 
     -- every request that device 2 was sent has ended, as an answer said, or waits
-    device-2-accounted : begunIn 2 (made st ms) ≡ endedIn byReply 2 (made st ms) + (endedIn byError 2 (made st ms) + (endedIn byExpiry 2 (made st ms) + (endedIn byCancel 2 (made st ms) + (endedIn byDrop 2 (made st ms) + waitingOn (portFor (last st ms) 2)))))
+    device-2-accounted : begunIn 2 (made st ms) ≡ endedIn byReply 2 (made st ms) + (endedIn byError 2 (made st ms) + (endedIn byExpiry 2 (made st ms) + (endedIn byCancel 2 (made st ms) + (endedIn byDrop 2 (made st ms) + waitingOn (portFor (stationAfter st ms) 2)))))
     device-2-accounted = d .accounted 2 refl st begins ms k
 
   -- a radio report is for the device that it names
@@ -187,7 +187,7 @@ module _ (d : Demands) where
   compared-count = d .compares-count 255
 
   -- the last call of a history was made on the station that the others left
-  last-made : (st : Station) (ms : List Made) (m : Made) → History st (ms ++ (m ∷ [])) → Ensured (last st ms) (m .call) (m .outcome)
+  last-made : (st : Station) (ms : List Made) (m : Made) → History st (ms ++ (m ∷ [])) → Ensured (stationAfter st ms) (m .call) (m .outcome)
   unfolding History
   last-made st ms m k = d .cut st ms (m ∷ []) k .1 .0
 

@@ -18,7 +18,7 @@ use Rattle.sequence.specs.Sentence.{sentence}
 use Rattle.sequence.specs.SentenceLaws.{by-answer}
 use Rattle.sequence.specs.Transcripts.{Entry, transcript}
 use Rattle.sequence.specs.Remaining.{view, whole, count}
-use Rattle.sequence.specs.Histories.{Ensured, Made, callOf, last, made}
+use Rattle.sequence.specs.Histories.{Ensured, Made, callOf, stationAfter, made}
 use Rattle.sequence.specs.HistoriesLaws as histories
 use Rattle.reach.specs.Sound.{Reached}
 use Rattle.reach.specs.RefusalTable.{ByTheTable}
@@ -96,6 +96,6 @@ demands =
       of-runs = demand3;
     }
   where
-    accounted-so : (n : ℕ) (st : Station) (ms : List Made) → made st ms ≡ transcript st (map callOf ms) → last st ms ≡ run st (map callOf ms) → Accounted n (transcript st (map callOf ms)) (view n (run st (map callOf ms))) → Accounted n (made st ms) (view n (last st ms))
+    accounted-so : (n : ℕ) (st : Station) (ms : List Made) → made st ms ≡ transcript st (map callOf ms) → stationAfter st ms ≡ run st (map callOf ms) → Accounted n (transcript st (map callOf ms)) (view n (run st (map callOf ms))) → Accounted n (made st ms) (view n (stationAfter st ms))
     accounted-so n st ms e f h =
-        subst (λ (es : List Entry). Accounted n es (view n (last st ms))) (sym e) (subst (λ (x : Station). Accounted n (transcript st (map callOf ms)) (view n x)) (sym f) h)
+        subst (λ (es : List Entry). Accounted n es (view n (stationAfter st ms))) (sym e) (subst (λ (x : Station). Accounted n (transcript st (map callOf ms)) (view n x)) (sym f) h)

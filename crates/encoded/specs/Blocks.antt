@@ -10,9 +10,33 @@ use Rattle.encoded.specs.declared.block.Header.{Header}
 abbrev pub headerSize : ℕ
 headerSize = 12
 
--- that of the listing
+-- the opcodes, in the order of the rules' calls
+abbrev pub takeOpcode : ℕ
+takeOpcode = 0
+
+abbrev pub requestOpcode : ℕ
+requestOpcode = 1
+
+abbrev pub cancelOpcode : ℕ
+cancelOpcode = 2
+
+abbrev pub tickOpcode : ℕ
+tickOpcode = 3
+
+abbrev pub switchOpcode : ℕ
+switchOpcode = 4
+
+abbrev pub getPairedOpcode : ℕ
+getPairedOpcode = 5
+
+abbrev pub ledOpcode : ℕ
+ledOpcode = 6
+
+abbrev pub listOpcode : ℕ
+listOpcode = 7
+
 abbrev pub lastOpcode : ℕ
-lastOpcode = 7
+lastOpcode = listOpcode
 
 -- byte 0 the opcode; 1 to 3 byte arguments; then ticks, offset, the length of the data and that of the lent buffer, two bytes each
 unfoldable pub headerOf : List ℕ → Header
@@ -30,7 +54,7 @@ headerOf s =
 
 -- request, switch, get-paired, LED and the listing are lent a buffer
 abbrev pub isWriter : ℕ → Bool
-isWriter op = eqb op 1 || leb 4 op
+isWriter op = eqb op requestOpcode || leb switchOpcode op
 
 -- how much of the arena a call is lent: nothing where it writes none, whatever its field says
 unfoldable pub lentSize : Header → ℕ
@@ -40,15 +64,16 @@ lentSize h = cond (isWriter (h .op)) (h .lent) 0
 unfoldable pub isWhole : Header → ℕ → ℕ → Bool
 isWhole h left room = leb (h .op) lastOpcode && (leb (headerSize + h .size) left && leb (lentSize h) room)
 
--- the opcodes are in the order of the rules' calls; arguments that a call does not have are not looked at
-unfoldable pub writerOf : Header → steps.Writer
-writerOf h =
-    cond (eqb (h .op) 4) (steps.switch (h .a) (h .b))
-    (cond (eqb (h .op) 5) steps.getPaired (cond (eqb (h .op) 6) (steps.led (h .a) (h .b)) steps.list))
+-- arguments that a call does not have are not looked at
+unfoldable pub blockWriter : Header → steps.Writer
+blockWriter h =
+    cond (eqb (h .op) switchOpcode) (steps.switch (h .a) (h .b))
+    (cond (eqb (h .op) getPairedOpcode) steps.getPaired
+    (cond (eqb (h .op) ledOpcode) (steps.led (h .a) (h .b)) steps.list))
 
-unfoldable pub callOf : Header → List ℕ → List ℕ → steps.Call
-callOf h bytes lent =
-    cond (eqb (h .op) 0) (steps.take bytes)
-    (cond (eqb (h .op) 1) (steps.request (h .a) (h .b) (h .c) (h .ticks) bytes (h .offset) lent)
-    (cond (eqb (h .op) 2) (steps.cancel (h .a) (h .b) (h .c))
-    (cond (eqb (h .op) 3) steps.tick (steps.write (writerOf h) (h .offset) lent))))
+unfoldable pub blockCall : Header → List ℕ → List ℕ → steps.Call
+blockCall h bytes lent =
+    cond (eqb (h .op) takeOpcode) (steps.take bytes)
+    (cond (eqb (h .op) requestOpcode) (steps.request (h .a) (h .b) (h .c) (h .ticks) bytes (h .offset) lent)
+    (cond (eqb (h .op) cancelOpcode) (steps.cancel (h .a) (h .b) (h .c))
+    (cond (eqb (h .op) tickOpcode) steps.tick (steps.write (blockWriter h) (h .offset) lent))))

@@ -19,7 +19,7 @@ use Rattle.station.specs.StationCalls.{RequestOutcome, CancelOutcome, TickOutco
 use Rattle.station.specs.StationPromises.{TakePromise, RequestPromise, CancelPromise, TickPromise}
 use Rattle.sequence.specs.Steps as steps
 use Rattle.encoded.specs.declared.block.Header.{Header}
-use Rattle.encoded.specs.Blocks.{isWriter, lentSize, writerOf, callOf}
+use Rattle.encoded.specs.Blocks.{takeOpcode, requestOpcode, cancelOpcode, tickOpcode, isWriter, lentSize, blockWriter, blockCall}
 use Rattle.encoded.specs.Rows.{takenRow, writtenRow, cancelledRow, tickedRow, encodeAnswer}
 use Rattle.encoded.specs.EncodedContracts.{Left, leftOf}
 use Rattle.frame.specs.FrameContracts.{writtenOf, writtenOutcome}
@@ -37,28 +37,28 @@ abbrev with : List ℕ → Station → List ℕ → Left
 with row st lent = record { row = row; station = st; lent = lent }
 
 module _ (st : Station) (h : Header) (bytes lent : List ℕ) where
-  pub is-request : (t : RequestResult) {row after : List ℕ} → h .op ≡ 1 → row ≡ writtenRow (writtenOf (t .answer)) → RequestPromise st (h .a) (h .b) (h .c) (h .ticks) bytes (h .offset) lent t after → with row (t .station) after ≡ leftOf (steps.step st (callOf h bytes lent))
-  unfolding callOf steps.step encodeAnswer
+  pub is-request : (t : RequestResult) {row after : List ℕ} → h .op ≡ requestOpcode → row ≡ writtenRow (writtenOf (t .answer)) → RequestPromise st (h .a) (h .b) (h .c) (h .ticks) bytes (h .offset) lent t after → with row (t .station) after ≡ leftOf (steps.step st (blockCall h bytes lent))
+  unfolding blockCall steps.step encodeAnswer
   is-request t e q p = simp (e, q) (ap (λ (o : RequestOutcome). leftOf (steps.requestStep bytes o)) p)
 
-  pub is-write : (t : Written) {row after : List ℕ} → h .op ≢ 0 → h .op ≢ 1 → h .op ≢ 2 → h .op ≢ 3 → row ≡ writtenRow (writtenOf t) → writtenOutcome t after ≡ steps.writerRule st (writerOf h) (h .offset) lent → with row st after ≡ leftOf (steps.step st (callOf h bytes lent))
-  unfolding callOf steps.step encodeAnswer
+  pub is-write : (t : Written) {row after : List ℕ} → h .op ≢ takeOpcode → h .op ≢ requestOpcode → h .op ≢ cancelOpcode → h .op ≢ tickOpcode → row ≡ writtenRow (writtenOf t) → writtenOutcome t after ≡ steps.writerRule st (blockWriter h) (h .offset) lent → with row st after ≡ leftOf (steps.step st (blockCall h bytes lent))
+  unfolding blockCall steps.step encodeAnswer
   is-write t n0 n1 n2 n3 q p =
-      simp (ne-eqb (h .op) 0 n0, ne-eqb (h .op) 1 n1, ne-eqb (h .op) 2 n2, ne-eqb (h .op) 3 n3, q) (ap (λ (o : writing.WriteOutcome). leftOf (steps.writeStep st o)) p)
+      simp (ne-eqb (h .op) takeOpcode n0, ne-eqb (h .op) requestOpcode n1, ne-eqb (h .op) cancelOpcode n2, ne-eqb (h .op) tickOpcode n3, q) (ap (λ (o : writing.WriteOutcome). leftOf (steps.writeStep st o)) p)
 
   -- a call without a buffer is lent nothing, and leaves nothing
   module _ (size : length lent ≡ lentSize h) where
-    pub is-take : (t : TakeResult) {row : List ℕ} → h .op ≡ 0 → row ≡ takenRow (takenOf (t .answer)) → TakePromise st bytes t → with row (t .station) lent ≡ leftOf (steps.step st (callOf h bytes lent))
-    unfolding callOf steps.step encodeAnswer
+    pub is-take : (t : TakeResult) {row : List ℕ} → h .op ≡ takeOpcode → row ≡ takenRow (takenOf (t .answer)) → TakePromise st bytes t → with row (t .station) lent ≡ leftOf (steps.step st (blockCall h bytes lent))
+    unfolding blockCall steps.step encodeAnswer
     is-take t e q p =
         simp (e, q, lent-nothing h lent (simp e) size) (ap (λ (o : TakeOutcome). leftOf (steps.takeStep bytes o)) p)
 
-    pub is-cancel : (t : CancelResult) {row : List ℕ} → h .op ≡ 2 → row ≡ cancelledRow (cancelOf (t .answer)) → CancelPromise st (h .a) (h .b) (h .c) t → with row (t .station) lent ≡ leftOf (steps.step st (callOf h bytes lent))
-    unfolding callOf steps.step encodeAnswer
+    pub is-cancel : (t : CancelResult) {row : List ℕ} → h .op ≡ cancelOpcode → row ≡ cancelledRow (cancelOf (t .answer)) → CancelPromise st (h .a) (h .b) (h .c) t → with row (t .station) lent ≡ leftOf (steps.step st (blockCall h bytes lent))
+    unfolding blockCall steps.step encodeAnswer
     is-cancel t e q p =
         simp (e, q, lent-nothing h lent (simp e) size) (ap (λ (o : CancelOutcome). leftOf (steps.cancelStep o)) p)
 
-    pub is-tick : (t : TickResult) {row : List ℕ} → h .op ≡ 3 → row ≡ tickedRow (t .ended) → TickPromise st t → with row (t .station) lent ≡ leftOf (steps.step st (callOf h bytes lent))
-    unfolding callOf steps.step encodeAnswer
+    pub is-tick : (t : TickResult) {row : List ℕ} → h .op ≡ tickOpcode → row ≡ tickedRow (t .ended) → TickPromise st t → with row (t .station) lent ≡ leftOf (steps.step st (blockCall h bytes lent))
+    unfolding blockCall steps.step encodeAnswer
     is-tick t e q p =
         simp (e, q, lent-nothing h lent (simp e) size) (ap (λ (o : TickOutcome). leftOf (steps.tickStep o)) p)

@@ -5,7 +5,7 @@ use mathlib.Core.List.{List, [], _∷_}
 use lib.ListN.{length, take, drop}
 use Rattle.sequence.specs.Steps.{Call}
 use Rattle.encoded.specs.declared.block.Header.{Header}
-use Rattle.encoded.specs.Blocks.{headerSize, headerOf, lentSize, isWhole, callOf}
+use Rattle.encoded.specs.Blocks.{headerSize, headerOf, lentSize, isWhole, blockCall}
 
 -- what encoded calls and an arena say
 pub data Decoded : Type 0 where
@@ -23,7 +23,7 @@ atEnd (x ∷ a) = malformed
 
 -- the call of a first block, with its lent bytes
 abbrev pub firstCall : Header → List ℕ → List ℕ → Call
-firstCall h s a = callOf h (take (h .size) (drop headerSize s)) (take (lentSize h) a)
+firstCall h s a = blockCall h (take (h .size) (drop headerSize s)) (take (lentSize h) a)
 
 -- what follows a first block
 abbrev pub restOf : Header → List ℕ → List ℕ

@@ -11,7 +11,7 @@ use borrow.Author.Tests.{leb-true}
 use Rattle.report.specs.ChoicesLaws.{both}
 use Rattle.sequence.specs.Steps.{Call}
 use Rattle.encoded.specs.declared.block.Header.{Header}
-use Rattle.encoded.specs.Blocks.{headerSize, lastOpcode, headerOf, lentSize, isWhole, callOf}
+use Rattle.encoded.specs.Blocks.{headerSize, lastOpcode, headerOf, lentSize, isWhole, blockCall}
 use Rattle.encoded.specs.Decoding.{Decoded, malformed, followed, atEnd, firstCall, restOf, pick, decodeBy}
 
 -- where nothing is left of the blocks, the arena decides
@@ -37,7 +37,7 @@ some fuel (x ∷ s) a h = refl
 
 -- the call of the block at an offset
 abbrev pub callAt : Header → List ℕ → List ℕ → ℕ → ℕ → Call
-callAt h s a at lent = callOf h (take (h .size) (drop (at + headerSize) s)) (take (lentSize h) (drop lent a))
+callAt h s a at lent = blockCall h (take (h .size) (drop (at + headerSize) s)) (take (lentSize h) (drop lent a))
 
 -- what is left after that block
 abbrev pub leftAt : ℕ → Header → List ℕ → List ℕ → ℕ → ℕ → Decoded

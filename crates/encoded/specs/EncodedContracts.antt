@@ -69,7 +69,7 @@ EncodedPromise st encoded arena answers r arenaAfter answersAfter =
     outcomeOf r arenaAfter answersAfter ≡ encodedRule st encoded arena answers
 
 -- what C is given of a run: all except the station
-pub record COutcome : Type 0 where
+pub record CRunOutcome : Type 0 where
   pub result : CRan
   pub arena : List ℕ
   pub answers : List ℕ
@@ -78,8 +78,8 @@ abbrev pub cRan : RunAnswer → CRan
 cRan (refused number) = record { refusal = number; length = 0 }
 cRan (done bytes) = record { refusal = 0; length = bytes }
 
-abbrev pub cOutcome : EncodedOutcome → COutcome
-cOutcome o = record { result = cRan (o .answer); arena = o .arena; answers = o .answers }
+abbrev pub cRunOutcome : EncodedOutcome → CRunOutcome
+cRunOutcome o = record { result = cRan (o .answer); arena = o .arena; answers = o .answers }
 
-abbrev pub cLeft : CRan → List ℕ → List ℕ → COutcome
+abbrev pub cLeft : CRan → List ℕ → List ℕ → CRunOutcome
 cLeft r arena answers = record { result = r; arena = arena; answers = answers }

@@ -9,7 +9,7 @@ use Rattle.report.specs.Refusals.{noRoom}
 use Rattle.station.specs.declared.Station.{Station}
 use Rattle.sequence.specs.Steps.{Call, CallAnswer, run, Returned, returnedBy}
 use Rattle.encoded.specs.Decoding.{Decoded, malformed, calls, decode}
-use Rattle.encoded.specs.Rows.{rowSize, encodeAnswer, decodeAnswer, Fits}
+use Rattle.encoded.specs.Rows.{rowSize, encodeAnswer, decodeAnswer, FitsRow}
 
 -- a cut header, an unknown opcode, data or lent bytes that are not there, or arena left over
 abbrev pub malformedCalls : ℕ
@@ -28,7 +28,7 @@ rows (t ∷ ts) = encodeAnswer (t .answer) ++ rows ts
 -- each answer fits its row
 unfoldable pub AllFit : List Returned → Type 0
 AllFit [] = Unit {0}
-AllFit (t ∷ ts) = Fits (t .answer) × AllFit ts
+AllFit (t ∷ ts) = FitsRow (t .answer) × AllFit ts
 
 abbrev pub answersOf : List Returned → List CallAnswer
 answersOf ts = map (λ (t : Returned). t .answer) ts
@@ -59,8 +59,8 @@ pub record EncodedOutcome : Type 0 where
   pub answers : List ℕ
 
 -- a refusal changes nothing
-abbrev pub kept : ℕ → Station → List ℕ → List ℕ → EncodedOutcome
-kept number st arena answers = record { answer = refused number; station = st; arena = arena; answers = answers }
+abbrev pub refusedRun : ℕ → Station → List ℕ → List ℕ → EncodedOutcome
+refusedRun number st arena answers = record { answer = refused number; station = st; arena = arena; answers = answers }
 
 -- every call is made: the rows are at the front of the answers, and the bytes after them keep their values
 unfoldable pub ran : Station → List Call → List ℕ → EncodedOutcome
@@ -73,9 +73,9 @@ ran st cs answers =
     }
 
 unfoldable pub encodedBy : Decoded → Station → List ℕ → List ℕ → EncodedOutcome
-encodedBy malformed st arena answers = kept malformedCalls st arena answers
+encodedBy malformed st arena answers = refusedRun malformedCalls st arena answers
 encodedBy (calls cs) st arena answers =
-    cond (leb (rowsSize cs) (length answers)) (ran st cs answers) (kept noRoom st arena answers)
+    cond (leb (rowsSize cs) (length answers)) (ran st cs answers) (refusedRun noRoom st arena answers)
 
 unfoldable pub encodedRule : Station → List ℕ → List ℕ → List ℕ → EncodedOutcome
 encodedRule st encoded arena answers = encodedBy (decode encoded arena) st arena answers

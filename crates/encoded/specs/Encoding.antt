@@ -5,6 +5,7 @@ use mathlib.Core.List.{List, [], _∷_, _++_}
 use lib.ListN.{length}
 use Rattle.sequence.specs.Steps as steps
 use Rattle.encoded.specs.declared.block.Header.{Header}
+use Rattle.encoded.specs.Blocks.{takeOpcode, requestOpcode, cancelOpcode, tickOpcode, switchOpcode, getPairedOpcode, ledOpcode, listOpcode}
 use Rattle.encoded.specs.Decoding.{calls, decode}
 
 -- the number of values of a byte
@@ -32,15 +33,15 @@ header op a b c ticks offset bytes lent =
 
 -- arguments that a call does not have are 0
 abbrev pub headerFor : steps.Call → Header
-headerFor (steps.take bytes) = header 0 0 0 0 0 0 bytes []
+headerFor (steps.take bytes) = header takeOpcode 0 0 0 0 0 bytes []
 headerFor (steps.request device byte2 byte3 ticks params offset lent) =
-    header 1 device byte2 byte3 ticks offset params lent
-headerFor (steps.cancel device byte2 byte3) = header 2 device byte2 byte3 0 0 [] []
-headerFor steps.tick = header 3 0 0 0 0 0 [] []
-headerFor (steps.write (steps.switch bits timeout) offset lent) = header 4 bits timeout 0 0 offset [] lent
-headerFor (steps.write steps.getPaired offset lent) = header 5 0 0 0 0 offset [] lent
-headerFor (steps.write (steps.led device leds) offset lent) = header 6 device leds 0 0 offset [] lent
-headerFor (steps.write steps.list offset lent) = header 7 0 0 0 0 offset [] lent
+    header requestOpcode device byte2 byte3 ticks offset params lent
+headerFor (steps.cancel device byte2 byte3) = header cancelOpcode device byte2 byte3 0 0 [] []
+headerFor steps.tick = header tickOpcode 0 0 0 0 0 [] []
+headerFor (steps.write (steps.switch bits timeout) offset lent) = header switchOpcode bits timeout 0 0 offset [] lent
+headerFor (steps.write steps.getPaired offset lent) = header getPairedOpcode 0 0 0 0 offset [] lent
+headerFor (steps.write (steps.led device leds) offset lent) = header ledOpcode device leds 0 0 offset [] lent
+headerFor (steps.write steps.list offset lent) = header listOpcode 0 0 0 0 offset [] lent
 
 abbrev pub encodeCall : steps.Call → List ℕ
 encodeCall c = encodeHeader (headerFor c) ++ steps.readOf c
@@ -57,11 +58,11 @@ arenaOf (c ∷ cs) = steps.lentOf c ++ arenaOf cs
 abbrev pub Byte : ℕ → Type 0
 Byte n = n < byteValues
 
-abbrev pub Short : ℕ → Type 0
-Short n = n < byteValues ^ 2
+abbrev pub InTwoBytes : ℕ → Type 0
+InTwoBytes n = n < byteValues ^ 2
 
-abbrev pub Long : ℕ → Type 0
-Long n = n < byteValues ^ 4
+abbrev pub InFourBytes : ℕ → Type 0
+InFourBytes n = n < byteValues ^ 4
 
 unfoldable pub Bytes : List ℕ → Type 0
 Bytes [] = Unit {0}
@@ -72,10 +73,10 @@ pub record Within (call : steps.Call) : Type 0 where
   pub a : Byte (headerFor call .a)
   pub b : Byte (headerFor call .b)
   pub c : Byte (headerFor call .c)
-  pub ticks : Short (headerFor call .ticks)
-  pub offset : Short (headerFor call .offset)
-  pub size : Short (headerFor call .size)
-  pub room : Short (headerFor call .lent)
+  pub ticks : InTwoBytes (headerFor call .ticks)
+  pub offset : InTwoBytes (headerFor call .offset)
+  pub size : InTwoBytes (headerFor call .size)
+  pub room : InTwoBytes (headerFor call .lent)
   pub bytes : Bytes (steps.readOf call)
   pub lent : Bytes (steps.lentOf call)
 

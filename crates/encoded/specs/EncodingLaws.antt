@@ -12,9 +12,9 @@ use borrow.Author.Tests.{le-leb, leb-true}
 use Rattle.report.specs.Sizes.{joined2}
 use Rattle.sequence.specs.Steps as steps
 use Rattle.encoded.specs.declared.block.Header.{Header}
-use Rattle.encoded.specs.Blocks.{headerSize, lastOpcode, headerOf, lentSize, isWhole, writerOf, callOf}
+use Rattle.encoded.specs.Blocks.{headerSize, lastOpcode, headerOf, lentSize, isWhole, blockWriter, blockCall}
 use Rattle.encoded.specs.Decoding.{Decoded, malformed, calls, followed, firstCall, restOf, decodeBy, decode}
-use Rattle.encoded.specs.Encoding.{byteValues, low, high, encodeHeader, headerFor, encodeCall, encode, arenaOf, Byte, Short, Bytes, Within, AllWithin, Encoded}
+use Rattle.encoded.specs.Encoding.{byteValues, low, high, encodeHeader, headerFor, encodeCall, encode, arenaOf, Byte, InTwoBytes, Bytes, Within, AllWithin, Encoded}
 
 -- two bytes carry a number
 joined-law : (n : ℕ) → joined2 (low n) (high n) ≡ n
@@ -29,10 +29,10 @@ record Says (c : steps.Call) : Type 0 where
   known : leb (headerFor c .op) lastOpcode ≡ true
   size : headerFor c .size ≡ length (steps.readOf c)
   lent : lentSize (headerFor c) ≡ length (steps.lentOf c)
-  call : callOf (headerFor c) (steps.readOf c) (steps.lentOf c) ≡ c
+  call : blockCall (headerFor c) (steps.readOf c) (steps.lentOf c) ≡ c
 
 says : (c : steps.Call) → Says c
-unfolding lentSize writerOf callOf
+unfolding lentSize blockWriter blockCall
 says (steps.take bytes) = record { known = refl; size = refl; lent = refl; call = refl }
 says (steps.request device byte2 byte3 ticks params offset lent) = record { known = refl; size = refl; lent = refl; call = refl }
 says (steps.cancel device byte2 byte3) = record { known = refl; size = refl; lent = refl; call = refl }
@@ -81,7 +81,7 @@ bytes-append (x ∷ xs) ys p q = (p .0, bytes-append xs ys (p .1) q)
 low-byte : (n : ℕ) → Byte (low n)
 low-byte n = omega arith
 
-high-byte : (n : ℕ) → Short n → Byte (high n)
+high-byte : (n : ℕ) → InTwoBytes n → Byte (high n)
 high-byte n h = omega arith
 
 -- both parts of one call are bytes

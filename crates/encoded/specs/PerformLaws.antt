@@ -17,13 +17,13 @@ use Rattle.encoded.specs.declared.Called.{Called}
 use Rattle.encoded.specs.declared.RunResult.{RunResult}
 use Rattle.encoded.specs.declared.Ran.{Ran}
 use Rattle.encoded.specs.declared.Ran.the-variants.{Done}
-use Rattle.encoded.specs.Blocks.{headerSize, headerOf, lentSize, isWhole, callOf}
+use Rattle.encoded.specs.Blocks.{headerSize, headerOf, lentSize, isWhole, blockCall}
 use Rattle.encoded.specs.Decoding.{Decoded, malformed, calls, followed, atEnd, decodeBy, decode}
 use Rattle.encoded.specs.DecodingLaws.{end-law, callAt, leftAt, block-at, is-whole}
 use Rattle.encoded.specs.Rows.{rowSize}
 use Rattle.encoded.specs.RowsLaws.{row-length}
-use Rattle.encoded.specs.EncodedRuns.{lents, rows, rowsSize, RunAnswer, EncodedOutcome, kept, ran, encodedBy, encodedRule, malformedCalls}
-use Rattle.encoded.specs.EncodedContracts.{Left, leftOf, leftBy, MadePromise, none, some, countFrom, Ready, ranOf, EncodedPromise, cRan, cOutcome, cLeft}
+use Rattle.encoded.specs.EncodedRuns.{lents, rows, rowsSize, RunAnswer, EncodedOutcome, refusedRun, ran, encodedBy, encodedRule, malformedCalls}
+use Rattle.encoded.specs.EncodedContracts.{Left, leftOf, leftBy, MadePromise, none, some, countFrom, Ready, ranOf, EncodedPromise, cRan, cRunOutcome, cLeft}
 
 -- the length of a lent part
 pub part-for : (b : List ℕ) (p n m : ℕ) → n ≡ m → p + m ≤ length b → length (take (p + n - p) (drop p b)) ≡ m
@@ -154,7 +154,7 @@ module _ {st₀ : Station} {s a₀ w₀ : List ℕ} {st : Station} {at lent size
       }
 
   -- after the turn: the call is made, its buffer given back, and its row put
-  module _ (r : Called) {n : ℕ} (q : n ≡ lentSize h) {ys : List ℕ} (made : MadePromise st (callOf h (take (at + headerSize + h .size - (at + headerSize)) (drop (at + headerSize) s)) (take (lent + n - lent) (drop lent a))) r ys) (given : length ys ≡ length (take (lent + n - lent) (drop lent a))) {m next : ℕ} {w₁ : List ℕ} (put : Puts m (r .row) size w next w₁) where
+  module _ (r : Called) {n : ℕ} (q : n ≡ lentSize h) {ys : List ℕ} (made : MadePromise st (blockCall h (take (at + headerSize + h .size - (at + headerSize)) (drop (at + headerSize) s)) (take (lent + n - lent) (drop lent a))) r ys) (given : length ys ≡ length (take (lent + n - lent) (drop lent a))) {m next : ℕ} {w₁ : List ℕ} (put : Puts m (r .row) size w next w₁) where
     is-step : leftBy r ys ≡ leftOf (step st (callAt h s a₀ at lent))
     is-step =
         let x : at + headerSize + h .size - (at + headerSize) ≡ h .size = omega arith in
@@ -208,11 +208,11 @@ module _ (st : Station) (s a w : List ℕ) where
   unfolding encodedRule
   by e = ap (λ (d : Decoded). encodedBy d st a w) (sym e)
 
-  pub is-malformed : none ≡ countFrom 0 (decode s a) → kept malformedCalls st a w ≡ encodedRule st s a w
+  pub is-malformed : none ≡ countFrom 0 (decode s a) → refusedRun malformedCalls st a w ≡ encodedRule st s a w
   unfolding encodedBy
   is-malformed n = go (decode s a) refl n
     where
-      go : (d : Decoded) → decode s a ≡ d → none ≡ countFrom 0 d → kept malformedCalls st a w ≡ encodedRule st s a w
+      go : (d : Decoded) → decode s a ≡ d → none ≡ countFrom 0 d → refusedRun malformedCalls st a w ≡ encodedRule st s a w
       go malformed e q = by e
       go (calls cs) e q = absurd (let z : _≡_ {A = ℕ} 0 1 = cc in omega arith)
 
@@ -229,7 +229,7 @@ module _ (st : Station) (s a w : List ℕ) where
       go malformed e q = absurd (let z : _≡_ {A = ℕ} 0 1 = cc in omega arith)
       go (calls cs) e q = let z : n ≡ 0 + rowsSize cs = cc in record { made = cs; decoded = e; count = omega arith }
 
-  pub has-no-room : {n : ℕ} → some n ≡ countFrom 0 (decode s a) → length w < n → kept noRoom st a w ≡ encodedRule st s a w
+  pub has-no-room : {n : ℕ} → some n ≡ countFrom 0 (decode s a) → length w < n → refusedRun noRoom st a w ≡ encodedRule st s a w
   unfolding encodedBy
   has-no-room m h =
       let c = some-calls m in
@@ -241,8 +241,8 @@ module _ (st : Station) (s a w : List ℕ) where
       record { made = c .made; decoded = c .decoded; room = omega (arith, c .count) }
 
 -- what C is given of a run on a fresh station
-pub for-c : {st : Station} (s a w : List ℕ) {a′ w′ : List ℕ} (r : RunResult) {x : Ran} → st ≡ freshStation → EncodedPromise st s a w r a′ w′ → r .answer ≡ x → cLeft (cRan (ranOf x)) a′ w′ ≡ cOutcome (encodedRule freshStation s a w)
+pub for-c : {st : Station} (s a w : List ℕ) {a′ w′ : List ℕ} (r : RunResult) {x : Ran} → st ≡ freshStation → EncodedPromise st s a w r a′ w′ → r .answer ≡ x → cLeft (cRan (ranOf x)) a′ w′ ≡ cRunOutcome (encodedRule freshStation s a w)
 for-c s a w {a′} {w′} r e p q =
     ap (λ (x : Ran). cLeft (cRan (ranOf x)) a′ w′) (sym q)
-    ∙ ap cOutcome p
-    ∙ ap (λ (st : Station). cOutcome (encodedRule st s a w)) e
+    ∙ ap cRunOutcome p
+    ∙ ap (λ (st : Station). cRunOutcome (encodedRule st s a w)) e

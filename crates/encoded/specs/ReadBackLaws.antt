@@ -34,16 +34,16 @@ use Rattle.sequence.specs.Steps as steps
 use Rattle.sequence.specs.IndependenceLaws.{Seven, seven-step}
 use Rattle.encoded.specs.declared.RunResult.{RunResult}
 use Rattle.encoded.specs.Decoding.{Decoded, calls, decode}
-use Rattle.encoded.specs.Encoding.{Short, Long, Bytes, Within, AllWithin}
+use Rattle.encoded.specs.Encoding.{InTwoBytes, InFourBytes, Bytes, Within, AllWithin}
 use Rattle.encoded.specs.WithinLaws.{byte-below, decoded-within}
-use Rattle.encoded.specs.Rows.{rowSize, encodeAnswer, decodeAnswer, Fits}
+use Rattle.encoded.specs.Rows.{rowSize, encodeAnswer, decodeAnswer, FitsRow}
 use Rattle.encoded.specs.RowsLaws.{reads-back, row-length}
 use Rattle.encoded.specs.EncodedRuns.{rows, AllFit, answersIn, ReadsBack, rowsSize, EncodedOutcome, ran, encodedBy, encodedRule}
 use Rattle.encoded.specs.EncodedContracts.{outcomeOf, EncodedPromise}
 
 -- what an answer has to carry, by its kind
 FitsTaken : answers.Answer → Type 0
-FitsTaken (answers.notice (answers.paired port more wpid reports dropped)) = Short wpid × Long reports
+FitsTaken (answers.notice (answers.paired port more wpid reports dropped)) = InTwoBytes wpid × InFourBytes reports
 FitsTaken (answers.notice (answers.unpaired port dropped)) = Unit {0}
 FitsTaken (answers.notice answers.emptyList) = Unit {0}
 FitsTaken (answers.notice (answers.link port up)) = Unit {0}
@@ -58,7 +58,7 @@ FitsTaken (answers.radio kind start size) = Unit {0}
 
 FitsWritten : writing.WriteAnswer → Type 0
 FitsWritten (writing.refused number) = Unit {0}
-FitsWritten (writing.wrote n) = Short n
+FitsWritten (writing.wrote n) = InTwoBytes n
 
 FitsBy : CallAnswer → Type 0
 FitsBy (taken a) = FitsTaken a
@@ -66,7 +66,7 @@ FitsBy (written a) = FitsWritten a
 FitsBy (cancelled a) = Unit {0}
 FitsBy (ticked counts) = length counts ≡ portCount
 
-fits-by : (x : CallAnswer) → FitsBy x → Fits x
+fits-by : (x : CallAnswer) → FitsBy x → FitsRow x
 unfolding FitsBy FitsTaken FitsWritten
 fits-by x f =
     record {
@@ -77,10 +77,10 @@ fits-by x f =
 
 -- of a report of bytes
 module _ (bytes : List ℕ) (b : Bytes bytes) where
-  wpid-below : Short (wpidOf bytes)
+  wpid-below : InTwoBytes (wpidOf bytes)
   wpid-below = omega (arith, byte-below bytes 4 b, byte-below bytes 5 b)
 
-  reports-below : Long (reportsOf bytes)
+  reports-below : InFourBytes (reportsOf bytes)
   reports-below = omega (arith, byte-below bytes 6 b, byte-below bytes 7 b, byte-below bytes 8 b, byte-below bytes 9 b)
 
 -- a part of what a rule gives has the property
@@ -137,13 +137,13 @@ abbrev FitsRequest : RequestOutcome → Type 0
 FitsRequest = Holds FitsWritten (λ (o : RequestOutcome). o .answer)
 
 -- what is written is no longer than the lent buffer
-module _ (lent : List ℕ) (room : Short (length lent)) where
+module _ (lent : List ℕ) (room : InTwoBytes (length lent)) where
   frame-fits : (frame : List ℕ) (offset : ℕ) → FitsOutcome (writing.frameAt frame offset lent)
   unfolding FitsWritten writing.frameAt
   frame-fits frame offset =
       by-case FitsOutcome (writing.fitsAt (length frame) offset (length lent)) (λ e. record { holds = omega (arith, leb-true (offset + length frame) (length lent) e, room) }) (λ e. record { holds = tt })
 
-  request-by-fits : (r : waiting.Room) (p : Port) (request : Request) (frame : List ℕ) (offset : ℕ) → Short (length frame) → FitsAt (requestBy r p request frame offset lent)
+  request-by-fits : (r : waiting.Room) (p : Port) (request : Request) (frame : List ℕ) (offset : ℕ) → InTwoBytes (length frame) → FitsAt (requestBy r p request frame offset lent)
   unfolding FitsWritten requestBy
   request-by-fits (waiting.Room.refused number) p request frame offset h = record { holds = tt }
   request-by-fits (waiting.at place) p request frame offset h = record { holds = h }

@@ -11,7 +11,7 @@ use Rattle.port.specs.Answers as answers
 use Rattle.port.specs.Waiting as waiting
 use Rattle.station.specs.Stations.{portCount}
 use Rattle.sequence.specs.Steps.{CallAnswer, taken, written, cancelled, ticked}
-use Rattle.encoded.specs.Encoding.{low, high, Short, Long}
+use Rattle.encoded.specs.Encoding.{low, high, InTwoBytes, InFourBytes}
 
 abbrev pub rowSize : ℕ
 rowSize = 10
@@ -97,7 +97,7 @@ decodeAnswer row =
     (ticked (take portCount (drop 1 row))))))))))))))))))
 
 -- what a row can carry: two bytes of a WPID and of a count of bytes written, four of a bitfield, and seven counts
-pub record Fits (x : CallAnswer) : Type 0 where
-  pub paired : (port : ℕ) (more : Bool) (wpid reports dropped : ℕ) → x ≡ taken (answers.notice (answers.paired port more wpid reports dropped)) → Short wpid × Long reports
-  pub written : (n : ℕ) → x ≡ written (writing.wrote n) → Short n
+pub record FitsRow (x : CallAnswer) : Type 0 where
+  pub paired : (port : ℕ) (more : Bool) (wpid reports dropped : ℕ) → x ≡ taken (answers.notice (answers.paired port more wpid reports dropped)) → InTwoBytes wpid × InFourBytes reports
+  pub written : (n : ℕ) → x ≡ written (writing.wrote n) → InTwoBytes n
   pub counts : (counts : List ℕ) → x ≡ ticked counts → length counts ≡ portCount

@@ -12,14 +12,14 @@ use Rattle.port.specs.Answers as answers
 use Rattle.port.specs.Waiting as waiting
 use Rattle.station.specs.declared.Station.{Station}
 use Rattle.sequence.specs.Steps.{Call, CallAnswer, taken, written, cancelled, ticked, step, returnedBy}
-use Rattle.encoded.specs.Encoding.{byteValues, low, high, Short, Long}
-use Rattle.encoded.specs.Rows.{rowSize, encodeAnswer, at, decodeAnswer, Fits}
+use Rattle.encoded.specs.Encoding.{byteValues, low, high, InTwoBytes, InFourBytes}
+use Rattle.encoded.specs.Rows.{rowSize, encodeAnswer, at, decodeAnswer, FitsRow}
 use Rattle.encoded.specs.EncodedRuns.{rows, rowsSize}
 
-two : (n : ℕ) → Short n → joined2 (low n) (low (high n)) ≡ n
+two : (n : ℕ) → InTwoBytes n → joined2 (low n) (low (high n)) ≡ n
 two n h = omega (arith, div-add-mod' n byteValues, div-add-mod' (high n) byteValues)
 
-four : (n : ℕ) → Long n → joined4 (low n) (low (high n)) (low (high (high n))) (low (high (high (high n)))) ≡ n
+four : (n : ℕ) → InFourBytes n → joined4 (low n) (low (high n)) (low (high (high n))) (low (high (high (high n)))) ≡ n
 four n h =
     omega (arith, div-add-mod' n byteValues, div-add-mod' (high n) byteValues, div-add-mod' (high (high n)) byteValues, div-add-mod' (high (high (high n))) byteValues)
 
@@ -35,7 +35,7 @@ seven (a ∷ b ∷ c ∷ d ∷ f ∷ g ∷ h ∷ []) e = refl
 seven (a ∷ b ∷ c ∷ d ∷ f ∷ g ∷ h ∷ i ∷ l) e = absurd (omega arith)
 
 -- a row reads back as its answer
-pub reads-back : (x : CallAnswer) → Fits x → decodeAnswer (encodeAnswer x) ≡ x
+pub reads-back : (x : CallAnswer) → FitsRow x → decodeAnswer (encodeAnswer x) ≡ x
 unfolding encodeAnswer decodeAnswer
 reads-back (taken (answers.refused number)) f = refl
 reads-back (taken (answers.reply a)) f = refl
@@ -58,7 +58,7 @@ reads-back (cancelled waiting.done) f = refl
 reads-back (ticked counts) f = ap ticked (seven counts (f .counts _ refl))
 
 -- so no two answers have the same row
-pub tells-apart : (x y : CallAnswer) → Fits x → Fits y → encodeAnswer x ≡ encodeAnswer y → x ≡ y
+pub tells-apart : (x y : CallAnswer) → FitsRow x → FitsRow y → encodeAnswer x ≡ encodeAnswer y → x ≡ y
 tells-apart x y f g e = sym (reads-back x f) ∙ ap decodeAnswer e ∙ reads-back y g
 
 -- a row is ten bytes long

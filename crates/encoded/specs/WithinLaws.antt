@@ -10,9 +10,9 @@ use Rattle.report.specs.ChoicesLaws.{by-case}
 use Rattle.report.specs.Sizes.{byte, joined2}
 use Rattle.sequence.specs.Steps as steps
 use Rattle.encoded.specs.declared.block.Header.{Header}
-use Rattle.encoded.specs.Blocks.{headerSize, headerOf, isWriter, lentSize, isWhole, writerOf, callOf}
+use Rattle.encoded.specs.Blocks.{headerSize, takeOpcode, requestOpcode, cancelOpcode, tickOpcode, switchOpcode, getPairedOpcode, ledOpcode, headerOf, isWriter, lentSize, isWhole, blockWriter, blockCall}
 use Rattle.encoded.specs.Decoding.{Decoded, malformed, calls, followed, atEnd, firstCall, restOf, decodeBy, decode}
-use Rattle.encoded.specs.Encoding.{Byte, Short, Bytes, Within, AllWithin}
+use Rattle.encoded.specs.Encoding.{Byte, InTwoBytes, Bytes, Within, AllWithin}
 
 pub byte-below : (bytes : List ℕ) (i : ℕ) → Bytes bytes → Byte (byte bytes i)
 unfolding Bytes
@@ -37,12 +37,12 @@ record Fields (h : Header) : Type 0 where
   a : Byte (h .a)
   b : Byte (h .b)
   c : Byte (h .c)
-  ticks : Short (h .ticks)
-  offset : Short (h .offset)
-  size : Short (h .size)
-  lent : Short (h .lent)
+  ticks : InTwoBytes (h .ticks)
+  offset : InTwoBytes (h .offset)
+  size : InTwoBytes (h .size)
+  lent : InTwoBytes (h .lent)
 
-two-bytes : (bytes : List ℕ) (i j : ℕ) → Bytes bytes → Short (joined2 (byte bytes i) (byte bytes j))
+two-bytes : (bytes : List ℕ) (i j : ℕ) → Bytes bytes → InTwoBytes (joined2 (byte bytes i) (byte bytes j))
 two-bytes bytes i j b = omega (arith, byte-below bytes i b, byte-below bytes j b)
 
 fields : (s : List ℕ) → Bytes s → Fields (headerOf s)
@@ -59,39 +59,39 @@ fields s b =
     }
 
 -- a call with these fields
-module _ (h : Header) (f : Fields h) (bytes lent : List ℕ) (data-bytes : Bytes bytes) (lent-bytes : Bytes lent) (size : Short (length bytes)) (room : Short (length lent)) where
+module _ (h : Header) (f : Fields h) (bytes lent : List ℕ) (data-bytes : Bytes bytes) (lent-bytes : Bytes lent) (size : InTwoBytes (length bytes)) (room : InTwoBytes (length lent)) where
   none : Byte 0
   none = lit≤ tt
 
-  zero-short : Short 0
-  zero-short = lit≤ tt
+  zero-in-two : InTwoBytes 0
+  zero-in-two = lit≤ tt
 
   no-bytes : Bytes []
   unfolding Bytes
   no-bytes = _
 
-  writer-within : Within (steps.write (writerOf h) (h .offset) lent)
-  unfolding writerOf
+  writer-within : Within (steps.write (blockWriter h) (h .offset) lent)
+  unfolding blockWriter
   writer-within =
-      by-case (λ (w : steps.Writer). Within (steps.write w (h .offset) lent)) (eqb (h .op) 4)
-      (λ e. record { a = f .a; b = f .b; c = none; ticks = zero-short; offset = f .offset; size = zero-short; room = room; bytes = no-bytes; lent = lent-bytes })
-      (λ e. by-case (λ (w : steps.Writer). Within (steps.write w (h .offset) lent)) (eqb (h .op) 5)
-      (λ e. record { a = none; b = none; c = none; ticks = zero-short; offset = f .offset; size = zero-short; room = room; bytes = no-bytes; lent = lent-bytes })
-      (λ e. by-case (λ (w : steps.Writer). Within (steps.write w (h .offset) lent)) (eqb (h .op) 6)
-      (λ e. record { a = f .a; b = f .b; c = none; ticks = zero-short; offset = f .offset; size = zero-short; room = room; bytes = no-bytes; lent = lent-bytes })
-      (λ e. record { a = none; b = none; c = none; ticks = zero-short; offset = f .offset; size = zero-short; room = room; bytes = no-bytes; lent = lent-bytes })))
+      by-case (λ (w : steps.Writer). Within (steps.write w (h .offset) lent)) (eqb (h .op) switchOpcode)
+      (λ e. record { a = f .a; b = f .b; c = none; ticks = zero-in-two; offset = f .offset; size = zero-in-two; room = room; bytes = no-bytes; lent = lent-bytes })
+      (λ e. by-case (λ (w : steps.Writer). Within (steps.write w (h .offset) lent)) (eqb (h .op) getPairedOpcode)
+      (λ e. record { a = none; b = none; c = none; ticks = zero-in-two; offset = f .offset; size = zero-in-two; room = room; bytes = no-bytes; lent = lent-bytes })
+      (λ e. by-case (λ (w : steps.Writer). Within (steps.write w (h .offset) lent)) (eqb (h .op) ledOpcode)
+      (λ e. record { a = f .a; b = f .b; c = none; ticks = zero-in-two; offset = f .offset; size = zero-in-two; room = room; bytes = no-bytes; lent = lent-bytes })
+      (λ e. record { a = none; b = none; c = none; ticks = zero-in-two; offset = f .offset; size = zero-in-two; room = room; bytes = no-bytes; lent = lent-bytes })))
 
-  call-within : Within (callOf h bytes lent)
-  unfolding callOf
+  call-within : Within (blockCall h bytes lent)
+  unfolding blockCall
   call-within =
-      by-case Within (eqb (h .op) 0)
-      (λ e. record { a = none; b = none; c = none; ticks = zero-short; offset = zero-short; size = size; room = zero-short; bytes = data-bytes; lent = no-bytes })
-      (λ e. by-case Within (eqb (h .op) 1)
+      by-case Within (eqb (h .op) takeOpcode)
+      (λ e. record { a = none; b = none; c = none; ticks = zero-in-two; offset = zero-in-two; size = size; room = zero-in-two; bytes = data-bytes; lent = no-bytes })
+      (λ e. by-case Within (eqb (h .op) requestOpcode)
       (λ e. record { a = f .a; b = f .b; c = f .c; ticks = f .ticks; offset = f .offset; size = size; room = room; bytes = data-bytes; lent = lent-bytes })
-      (λ e. by-case Within (eqb (h .op) 2)
-      (λ e. record { a = f .a; b = f .b; c = f .c; ticks = zero-short; offset = zero-short; size = zero-short; room = zero-short; bytes = no-bytes; lent = no-bytes })
-      (λ e. by-case Within (eqb (h .op) 3)
-      (λ e. record { a = none; b = none; c = none; ticks = zero-short; offset = zero-short; size = zero-short; room = zero-short; bytes = no-bytes; lent = no-bytes })
+      (λ e. by-case Within (eqb (h .op) cancelOpcode)
+      (λ e. record { a = f .a; b = f .b; c = f .c; ticks = zero-in-two; offset = zero-in-two; size = zero-in-two; room = zero-in-two; bytes = no-bytes; lent = no-bytes })
+      (λ e. by-case Within (eqb (h .op) tickOpcode)
+      (λ e. record { a = none; b = none; c = none; ticks = zero-in-two; offset = zero-in-two; size = zero-in-two; room = zero-in-two; bytes = no-bytes; lent = no-bytes })
       (λ e. writer-within))))
 
 lent-size : (h : Header) → lentSize h ≤ h .lent

@@ -3,9 +3,9 @@ ghost use mathlib.Core.Path.{_≡_};
 ghost use lib.ListN.{length};
 ghost use Rattle.station.specs.Stations.{freshStation};
 ghost use Rattle.sequence.specs.Steps.{writerRule};
-ghost use Rattle.encoded.specs.Blocks.{lentSize, writerOf, callOf};
+ghost use Rattle.encoded.specs.Blocks.{lentSize, blockWriter, blockCall};
 ghost use Rattle.encoded.specs.EncodedRuns.{encodedRule};
-ghost use Rattle.encoded.specs.EncodedContracts.{MadePromise, CheckPromise, Ready, EncodedPromise, cLeft, cOutcome};
+ghost use Rattle.encoded.specs.EncodedContracts.{MadePromise, CheckPromise, Ready, EncodedPromise, cLeft, cRunOutcome};
 ghost use Rattle.frame.specs.FrameContracts.{writtenOutcome};
 
 mod block;
@@ -69,7 +69,7 @@ struct Called {
 
 // Makes the call that a header of a writer says.
 fn write(station: Station, h: Header, buffer: &mut [u8]) -> Written
-    ensures { λ r. ⌜ writtenOutcome r (now (buffer .exit)) ≡ writerRule station (writerOf h) (h .offset) (now (buffer .entry)) ⌝ }
+    ensures { λ r. ⌜ writtenOutcome r (now (buffer .exit)) ≡ writerRule station (blockWriter h) (h .offset) (now (buffer .entry)) ⌝ }
 {
     let op = h.op;
     let offset = h.offset as usize;
@@ -84,7 +84,7 @@ fn write(station: Station, h: Header, buffer: &mut [u8]) -> Written
 // Makes the call that a header and its data say, on a buffer of the length that it says.
 fn call(station: Station, h: Header, bytes: &[u8], buffer: &mut [u8]) -> Called
     requires { ⌜ length (now buffer) ≡ lentSize h ⌝ }
-    ensures { λ r. ⌜ MadePromise station (callOf h (now (bytes .entry)) (now (buffer .entry))) r (now (buffer .exit)) ⌝ }
+    ensures { λ r. ⌜ MadePromise station (blockCall h (now (bytes .entry)) (now (buffer .entry))) r (now (buffer .exit)) ⌝ }
 {
     let op = h.op;
     let device = Device(h.a);
@@ -195,7 +195,7 @@ pub extern "C" fn blotterfinch_run_encoded(
     arena: &mut [u8],
     answers: &mut [u8],
 ) -> CRan
-    ensures by_rule { λ r. ⌜ cLeft r (now (arena .exit)) (now (answers .exit)) ≡ cOutcome (encodedRule freshStation (now (encoded .entry)) (now (arena .entry)) (now (answers .entry))) ⌝ }
+    ensures by_rule { λ r. ⌜ cLeft r (now (arena .exit)) (now (answers .exit)) ≡ cRunOutcome (encodedRule freshStation (now (encoded .entry)) (now (arena .entry)) (now (answers .entry))) ⌝ }
 {
     let run = run_encoded(Station::new(), encoded, arena, answers);
     let answer = run.answer;

@@ -4,7 +4,7 @@ use mathlib.Core.List.{List, [], _∷_, _++_}
 use mathlib.Core.Bool.{cond}
 use lib.ListN.{length, take}
 use Rattle.report.specs.Ports.{deviceCount}
-use Rattle.text.specs.Words.{ascii, hex, decimal}
+use Rattle.text.specs.Words.{ascii, newline, hex, decimal}
 use Rattle.text.specs.Texts.{each, digits16, digits32, byteMost, linkText, linkMost, versionText, versionMost, batteryText, batteryMost}
 use Rattle.frame.specs.Writing.{WriteOutcome, frameAt}
 use Rattle.port.specs.Places.{countWaiting}
@@ -12,9 +12,6 @@ use Rattle.port.specs.declared.Port.{Port}
 
 abbrev pub tab : ℕ
 tab = 9
-
-abbrev pub newline : ℕ
-newline = 10
 
 -- tabs between fields, and a newline at the end
 abbrev pub tabbed : List (List ℕ) → List ℕ
@@ -33,8 +30,8 @@ fieldNames =
     ∷ ascii "waiting"
     ∷ []
 
-unfoldable pub header : List ℕ
-header = tabbed fieldNames
+unfoldable pub headerLine : List ℕ
+headerLine = tabbed fieldNames
 
 -- the fields in the header's order: hexadecimal at fixed width, others decimal
 unfoldable pub deviceLine : (number : ℕ) → Port → List ℕ
@@ -64,7 +61,7 @@ lines ports = each (λ (position : ℕ) (p : Port). deviceText (position + 1) p)
 
 -- header first, then paired devices in number order
 unfoldable pub listing : List Port → List ℕ
-listing ports = header ++ lines ports
+listing ports = headerLine ++ lines ports
 
 -- the whole listing, or 10
 unfoldable pub listingRule : List Port → ℕ → List ℕ → WriteOutcome

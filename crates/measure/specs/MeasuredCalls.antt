@@ -15,8 +15,8 @@ use Rattle.station.specs.StationCalls.{RequestOutcome, requestRule, CancelOutco
 use Rattle.measure.specs.Weights.{takeWeight, writeWeight, cancelWeight, tickWeight}
 
 -- the head of a call: its kind, the number of lent bytes, device, byte 2, byte 3, ticks, and two that count for nothing
-abbrev pub headSize : ℕ
-headSize = 8
+abbrev pub callHeadSize : ℕ
+callHeadSize = 8
 
 -- then the lent bytes, fewer than this
 abbrev pub roomSize : ℕ
@@ -26,11 +26,11 @@ abbrev pub callSize : ℕ
 callSize = 72
 
 -- a byte of the call that begins at an offset
-abbrev pub field : List ℕ → ℕ → ℕ → ℕ
-field calls at k = byte calls (at + k)
+abbrev pub callByte : List ℕ → ℕ → ℕ → ℕ
+callByte calls at k = byte calls (at + k)
 
 abbrev pub lentAt : List ℕ → ℕ → List ℕ
-lentAt calls at = take (field calls at 1 % roomSize) (drop (at + headSize) calls)
+lentAt calls at = take (callByte calls at 1 % roomSize) (drop (at + callHeadSize) calls)
 
 -- where the calls have come to: the answers' sum, the station, and the buffer
 pub record Course : Type 0 where
@@ -41,36 +41,36 @@ pub record Course : Type 0 where
 abbrev pub added : ℕ → ℕ → ℕ
 added sum weight = (sum + weight) % 2 ^ 64
 
-abbrev pub afterTake : Course → TakeOutcome → Course
-afterTake c o = record { sum = added (c .sum) (takeWeight (o .answer)); station = o .station; lent = c .lent }
+abbrev pub measuredTake : Course → TakeOutcome → Course
+measuredTake c o = record { sum = added (c .sum) (takeWeight (o .answer)); station = o .station; lent = c .lent }
 
-abbrev pub afterRequest : Course → RequestOutcome → Course
-afterRequest c o = record { sum = added (c .sum) (writeWeight (o .answer)); station = o .station; lent = o .lent }
+abbrev pub measuredRequest : Course → RequestOutcome → Course
+measuredRequest c o = record { sum = added (c .sum) (writeWeight (o .answer)); station = o .station; lent = o .lent }
 
-abbrev pub afterCancel : Course → CancelOutcome → Course
-afterCancel c o = record { sum = added (c .sum) (cancelWeight (o .answer)); station = o .station; lent = c .lent }
+abbrev pub measuredCancel : Course → CancelOutcome → Course
+measuredCancel c o = record { sum = added (c .sum) (cancelWeight (o .answer)); station = o .station; lent = c .lent }
 
-abbrev pub afterTick : Course → TickOutcome → Course
-afterTick c o = record { sum = added (c .sum) (tickWeight (o .ended)); station = o .station; lent = c .lent }
+abbrev pub measuredTick : Course → TickOutcome → Course
+measuredTick c o = record { sum = added (c .sum) (tickWeight (o .ended)); station = o .station; lent = c .lent }
 
-abbrev pub afterList : Course → writing.WriteOutcome → Course
-afterList c o = record { sum = added (c .sum) (writeWeight (o .answer)); station = c .station; lent = o .lent }
+abbrev pub measuredList : Course → writing.WriteOutcome → Course
+measuredList c o = record { sum = added (c .sum) (writeWeight (o .answer)); station = c .station; lent = o .lent }
 
 -- 0 take, 1 request, 2 cancel, 3 tick, any other the listing; requests and listings are written at offset 0
-unfoldable pub called : Course → List ℕ → ℕ → Course
-called c calls at =
-    cond (eqb (byte calls at) 0) (afterTake c (takeRule (c .station) (lentAt calls at)))
+unfoldable pub measuredCall : Course → List ℕ → ℕ → Course
+measuredCall c calls at =
+    cond (eqb (byte calls at) 0) (measuredTake c (takeRule (c .station) (lentAt calls at)))
     (cond (eqb (byte calls at) 1)
-    (afterRequest c (requestRule (c .station) (field calls at 2) (field calls at 3) (field calls at 4) (field calls at 5) (lentAt calls at) 0 (c .lent)))
+    (measuredRequest c (requestRule (c .station) (callByte calls at 2) (callByte calls at 3) (callByte calls at 4) (callByte calls at 5) (lentAt calls at) 0 (c .lent)))
     (cond (eqb (byte calls at) 2)
-    (afterCancel c (cancelRule (c .station) (field calls at 2) (field calls at 3) (field calls at 4)))
-    (cond (eqb (byte calls at) 3) (afterTick c (tickAll (c .station)))
-    (afterList c (listingRule (c .station .ports) 0 (c .lent))))))
+    (measuredCancel c (cancelRule (c .station) (callByte calls at 2) (callByte calls at 3) (callByte calls at 4)))
+    (cond (eqb (byte calls at) 3) (measuredTick c (tickAll (c .station)))
+    (measuredList c (listingRule (c .station .ports) 0 (c .lent))))))
 
 -- after this number of calls
 unfoldable pub after : List ℕ → List ℕ → ℕ → Course
 after calls lent zero = record { sum = 0; station = freshStation; lent = lent }
-after calls lent (suc i) = called (after calls lent i) calls (callSize * i)
+after calls lent (suc i) = measuredCall (after calls lent i) calls (callSize * i)
 
 -- what is measured: the sum and the buffer
 pub record Measured : Type 0 where

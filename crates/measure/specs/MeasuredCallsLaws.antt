@@ -17,7 +17,7 @@ use Rattle.station.specs.declared.TickResult.{TickResult}
 use Rattle.station.specs.Stations.{freshStation}
 use Rattle.station.specs.StationPromises.{TakePromise, RequestPromise, CancelPromise, TickPromise, ListPromise}
 use Rattle.measure.specs.Weights.{takeWeight, writeWeight, cancelWeight, tickWeight}
-use Rattle.measure.specs.MeasuredCalls.{headSize, roomSize, callSize, field, lentAt, Course, added, afterTake, afterRequest, afterCancel, afterTick, afterList, called, after, measuredIn, measured, measuredBy}
+use Rattle.measure.specs.MeasuredCalls.{callHeadSize, roomSize, callSize, callByte, lentAt, Course, added, measuredTake, measuredRequest, measuredCancel, measuredTick, measuredList, measuredCall, after, measuredIn, measured, measuredBy}
 use Rattle.port.specs.PortContracts.{takenOf, cancelOf}
 use Rattle.frame.specs.FrameContracts.{writtenOf}
 
@@ -25,32 +25,32 @@ abbrev pub course : ℕ → Station → List ℕ → Course
 course sum s lent = record { sum = sum; station = s; lent = lent }
 
 -- the bytes that a call lends
-pub lent-part : (calls : List ℕ) (at : ℕ) → take ((at + headSize + field calls at 1 % roomSize) - (at + headSize)) (drop (at + headSize) calls) ≡ lentAt calls at
+pub lent-part : (calls : List ℕ) (at : ℕ) → take ((at + callHeadSize + callByte calls at 1 % roomSize) - (at + callHeadSize)) (drop (at + callHeadSize) calls) ≡ lentAt calls at
 lent-part calls at =
-    let e : (at + headSize + field calls at 1 % roomSize) - (at + headSize) ≡ field calls at 1 % roomSize = omega arith in
-    ap (λ (n : ℕ). take n (drop (at + headSize) calls)) e
+    let e : (at + callHeadSize + callByte calls at 1 % roomSize) - (at + callHeadSize) ≡ callByte calls at 1 % roomSize = omega arith in
+    ap (λ (n : ℕ). take n (drop (at + callHeadSize) calls)) e
 
 -- one turn, by the kind of its call
 module _ (calls : List ℕ) (sum : ℕ) (s : Station) (lent : List ℕ) (at : ℕ) {next w : ℕ} (a : next ≡ added sum w) where
-  pub take-turn : (t : TakeResult) {bytes : List ℕ} → byte calls at ≡ 0 → bytes ≡ lentAt calls at → TakePromise s bytes t → w ≡ takeWeight (takenOf (t .answer)) → course next (t .station) lent ≡ called (course sum s lent) calls at
-  unfolding called
-  take-turn t {bytes} k b p e = simp (k, ← b) (ap (λ (n : ℕ). course n (t .station) lent) (a ∙ ap (added sum) e) ∙ ap (afterTake (course sum s lent)) p)
+  pub take-turn : (t : TakeResult) {bytes : List ℕ} → byte calls at ≡ 0 → bytes ≡ lentAt calls at → TakePromise s bytes t → w ≡ takeWeight (takenOf (t .answer)) → course next (t .station) lent ≡ measuredCall (course sum s lent) calls at
+  unfolding measuredCall
+  take-turn t {bytes} k b p e = simp (k, ← b) (ap (λ (n : ℕ). course n (t .station) lent) (a ∙ ap (added sum) e) ∙ ap (measuredTake (course sum s lent)) p)
 
-  pub request-turn : (r : RequestResult) {after params : List ℕ} {ticks : ℕ} → byte calls at ≡ 1 → params ≡ lentAt calls at → ticks ≡ field calls at 5 → RequestPromise s (field calls at 2) (field calls at 3) (field calls at 4) ticks params 0 lent r after → w ≡ writeWeight (writtenOf (r .answer)) → course next (r .station) after ≡ called (course sum s lent) calls at
-  unfolding called
-  request-turn r {after} k b q p e = simp (k, ← b, ← q) (ap (λ (n : ℕ). course n (r .station) after) (a ∙ ap (added sum) e) ∙ ap (afterRequest (course sum s lent)) p)
+  pub request-turn : (r : RequestResult) {after params : List ℕ} {ticks : ℕ} → byte calls at ≡ 1 → params ≡ lentAt calls at → ticks ≡ callByte calls at 5 → RequestPromise s (callByte calls at 2) (callByte calls at 3) (callByte calls at 4) ticks params 0 lent r after → w ≡ writeWeight (writtenOf (r .answer)) → course next (r .station) after ≡ measuredCall (course sum s lent) calls at
+  unfolding measuredCall
+  request-turn r {after} k b q p e = simp (k, ← b, ← q) (ap (λ (n : ℕ). course n (r .station) after) (a ∙ ap (added sum) e) ∙ ap (measuredRequest (course sum s lent)) p)
 
-  pub cancel-turn : (r : CancelResult) → byte calls at ≡ 2 → CancelPromise s (field calls at 2) (field calls at 3) (field calls at 4) r → w ≡ cancelWeight (cancelOf (r .answer)) → course next (r .station) lent ≡ called (course sum s lent) calls at
-  unfolding called
-  cancel-turn r k p e = simp k (ap (λ (n : ℕ). course n (r .station) lent) (a ∙ ap (added sum) e) ∙ ap (afterCancel (course sum s lent)) p)
+  pub cancel-turn : (r : CancelResult) → byte calls at ≡ 2 → CancelPromise s (callByte calls at 2) (callByte calls at 3) (callByte calls at 4) r → w ≡ cancelWeight (cancelOf (r .answer)) → course next (r .station) lent ≡ measuredCall (course sum s lent) calls at
+  unfolding measuredCall
+  cancel-turn r k p e = simp k (ap (λ (n : ℕ). course n (r .station) lent) (a ∙ ap (added sum) e) ∙ ap (measuredCancel (course sum s lent)) p)
 
-  pub tick-turn : (r : TickResult) → byte calls at ≡ 3 → TickPromise s r → w ≡ tickWeight (r .ended) → course next (r .station) lent ≡ called (course sum s lent) calls at
-  unfolding called
-  tick-turn r k p e = simp k (ap (λ (n : ℕ). course n (r .station) lent) (a ∙ ap (added sum) e) ∙ ap (afterTick (course sum s lent)) p)
+  pub tick-turn : (r : TickResult) → byte calls at ≡ 3 → TickPromise s r → w ≡ tickWeight (r .ended) → course next (r .station) lent ≡ measuredCall (course sum s lent) calls at
+  unfolding measuredCall
+  tick-turn r k p e = simp k (ap (λ (n : ℕ). course n (r .station) lent) (a ∙ ap (added sum) e) ∙ ap (measuredTick (course sum s lent)) p)
 
-  pub list-turn : (r : Written) {after : List ℕ} → ¬ (byte calls at ≡ 0) → ¬ (byte calls at ≡ 1) → ¬ (byte calls at ≡ 2) → ¬ (byte calls at ≡ 3) → ListPromise s 0 lent r after → w ≡ writeWeight (writtenOf r) → course next s after ≡ called (course sum s lent) calls at
-  unfolding called
-  list-turn r {after} k0 k1 k2 k3 p e = simp (ne-eqb _ _ k0, ne-eqb _ _ k1, ne-eqb _ _ k2, ne-eqb _ _ k3) (ap (λ (n : ℕ). course n s after) (a ∙ ap (added sum) e) ∙ ap (afterList (course sum s lent)) p)
+  pub list-turn : (r : Written) {after : List ℕ} → ¬ (byte calls at ≡ 0) → ¬ (byte calls at ≡ 1) → ¬ (byte calls at ≡ 2) → ¬ (byte calls at ≡ 3) → ListPromise s 0 lent r after → w ≡ writeWeight (writtenOf r) → course next s after ≡ measuredCall (course sum s lent) calls at
+  unfolding measuredCall
+  list-turn r {after} k0 k1 k2 k3 p e = simp (ne-eqb _ _ k0, ne-eqb _ _ k1, ne-eqb _ _ k2, ne-eqb _ _ k3) (ap (λ (n : ℕ). course n s after) (a ∙ ap (added sum) e) ∙ ap (measuredList (course sum s lent)) p)
 
 -- the loop's state: what the first i calls have come to
 pub record Running (calls lent₀ lent : List ℕ) (s : Station) (sum i : ℕ) : Type 0 where
@@ -62,13 +62,13 @@ pub begun : (calls lent : List ℕ) {s : Station} → s ≡ freshStation → Run
 unfolding after
 begun calls lent e = record { within = omega arith; long = refl; so = ap (λ (x : Station). course 0 x lent) e }
 
-pub more : {calls lent₀ lent next : List ℕ} {s t : Station} {sum n i : ℕ} → Running calls lent₀ lent s sum i → i < length calls / callSize → length next ≡ length lent → course n t next ≡ called (course sum s lent) calls (callSize * i) → Running calls lent₀ next t n (i + 1)
+pub more : {calls lent₀ lent next : List ℕ} {s t : Station} {sum n i : ℕ} → Running calls lent₀ lent s sum i → i < length calls / callSize → length next ≡ length lent → course n t next ≡ measuredCall (course sum s lent) calls (callSize * i) → Running calls lent₀ next t n (i + 1)
 unfolding after
 more {calls} {lent₀} {i = i} r h l e =
     record {
       within = omega arith;
       long = l ∙ r .long;
-      so = e ∙ ap (λ (c : Course). called c calls (callSize * i)) (r .so) ∙ ap (after calls lent₀) (sym (add-one i));
+      so = e ∙ ap (λ (c : Course). measuredCall c calls (callSize * i)) (r .so) ∙ ap (after calls lent₀) (sym (add-one i));
     }
 
 pub finished : {calls lent₀ lent : List ℕ} {s : Station} {sum i : ℕ} → Running calls lent₀ lent s sum i → length calls / callSize ≤ i → measuredBy sum lent ≡ measured calls lent₀

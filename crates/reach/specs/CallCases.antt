@@ -21,7 +21,7 @@ use Rattle.hidpp.specs.declared.Message.{Message}
 use Rattle.hidpp.specs.HidppRecords.{afterReply, afterError, afterEvent}
 use Rattle.hidpp.specs.HidppTaking.{messageOf, about, carried, isError, named2, named3, code, errorFits, kindOf, isMajor1, takeHidpp}
 use Rattle.dj.specs.DjTaking.{isDeclared, radioAnswer, isMore, wpidOf, reportsOf, isPairedWith, isUp}
-use Rattle.request.specs.Requesting.{isForbidden, pendingOf, RequestAt, refusedAt, withWaiting, requestAt}
+use Rattle.request.specs.Requesting.{isForbidden, waitingRequest, RequestAt, refusedAt, withWaiting, requestAt}
 use Rattle.station.specs.declared.Station.{Station}
 use Rattle.station.specs.Stations.{portCount, positionOf, portAt}
 use Rattle.station.specs.StationTaking.{storedAt}
@@ -131,8 +131,8 @@ module _ (p : Port) (device byte2 byte3 ticks : ℕ) (params : List ℕ) (offset
   abbrev pub frame : List ℕ
   frame = writing.requestFrame device byte2 byte3 params
 
-  -- neither 9 nor 10 applies
-  pub record Fits : Type 0 where
+  -- neither 9 nor 10 applies: the frame may be written
+  pub record Writable : Type 0 where
     pub allowed : isForbidden byte2 byte3 ticks params ≡ false
     pub room : writing.fitsAt (length frame) offset (length lent) ≡ true
 
@@ -140,16 +140,16 @@ module _ (p : Port) (device byte2 byte3 ticks : ℕ) (params : List ℕ) (offset
     is9 : isForbidden byte2 byte3 ticks params ≡ true → RequestRefused forbidden
     is10 : isForbidden byte2 byte3 ticks params ≡ false → writing.fitsAt (length frame) offset (length lent) ≡ false → RequestRefused noRoom
     -- one waits with these bytes 2 and 3
-    is11 : Fits → Waits p byte2 byte3 → RequestRefused alreadyWaiting
+    is11 : Writable → Waits p byte2 byte3 → RequestRefused alreadyWaiting
     -- as many wait as the port has places
-    is12 : Fits → ¬ Waits p byte2 byte3 → countWaiting (p .places) ≡ placeCount → RequestRefused placesFull
+    is12 : Writable → ¬ Waits p byte2 byte3 → countWaiting (p .places) ≡ placeCount → RequestRefused placesFull
 
   pub data RequestCase : RequestAt → Type 0 where
     requestRefused : {number : ℕ} → RequestRefused number → RequestCase (refusedAt number p lent)
     -- the frame is written, and the request waits in the lowest empty place
-    accepted : Fits → ¬ Waits p byte2 byte3 → countWaiting (p .places) < placeCount → RequestCase (record {
+    accepted : Writable → ¬ Waits p byte2 byte3 → countWaiting (p .places) < placeCount → RequestCase (record {
       answer = writing.wrote (length frame);
-      port = withWaiting p (firstAt isEmpty (p .places)) (pendingOf byte2 byte3 ticks params);
+      port = withWaiting p (firstAt isEmpty (p .places)) (waitingRequest byte2 byte3 ticks params);
       lent = writing.pasted frame offset lent;
     })
 

@@ -24,7 +24,7 @@ use Rattle.port.specs.Answers.{Answer, refused, reply, stray, plain, event, fai
 use Rattle.hidpp.specs.declared.Message.{Message}
 use Rattle.hidpp.specs.HidppTaking.{messageOf, errorFits, named2, named3, errorRule, replyRule, featureRule, unaskedRule, takeHidpp}
 use Rattle.dj.specs.DjTaking.{radioRule, unpairedRule, pairedRule, linkRule, otherRule, takeDj}
-use Rattle.request.specs.Requesting.{RequestAt, pendingOf, requestBy, requestAt}
+use Rattle.request.specs.Requesting.{RequestAt, waitingRequest, requestBy, requestAt}
 use Rattle.station.specs.declared.Station.{Station}
 use Rattle.station.specs.Stations.{positionOf}
 use Rattle.station.specs.StationsLaws.{position-within}
@@ -35,7 +35,7 @@ use Rattle.reach.specs.ListsLaws.{found-passes, passes-found}
 use Rattle.sequence.specs.ReadingsLaws.{in-range, above}
 use Rattle.reach.specs.SoundLaws.{empty-fails}
 use Rattle.sequence.specs.Remaining.{portFor}
-use Rattle.reach.specs.CallCases.{Waits, Unasked, IsFailed, IsReply, IsStray, unnamed, register, reserved, late, IsPlain, notification, major1, IsEvent, software0, HidppCase, givesFailed, givesReply, givesStray, givesPlain, givesEvent, radioUnpaired, radioUndeclared, linkUnpaired, DjCase, djRefused, radioTaken, unpairs, pairedSame, pairedNew, linkSet, otherNotice, Fits, RequestRefused, is9, is10, is11, is12, RequestCase, requestRefused, accepted, CancelCase, refused13, cancelDone, StepCase, unread, listEmpty, hidppAtPort, djAtPort, request5, requestAtPort, cancel5, cancelAtPort, tickAllPorts, writeOnly, Placed, AllPlaced, ByCases, HidppAnswers, RequestAnswers, CancelAnswers}
+use Rattle.reach.specs.CallCases.{Waits, Unasked, IsFailed, IsReply, IsStray, unnamed, register, reserved, late, IsPlain, notification, major1, IsEvent, software0, HidppCase, givesFailed, givesReply, givesStray, givesPlain, givesEvent, radioUnpaired, radioUndeclared, linkUnpaired, DjCase, djRefused, radioTaken, unpairs, pairedSame, pairedNew, linkSet, otherNotice, Writable, RequestRefused, is9, is10, is11, is12, RequestCase, requestRefused, accepted, CancelCase, refused13, cancelDone, StepCase, unread, listEmpty, hidppAtPort, djAtPort, request5, requestAtPort, cancel5, cancelAtPort, tickAllPorts, writeOnly, Placed, AllPlaced, ByCases, HidppAnswers, RequestAnswers, CancelAnswers}
 
 -- joined with a false test
 pub and-false : (b : Bool) → (b && false) ≡ false
@@ -200,14 +200,14 @@ module _ (p : Port) (placed : Placed p) (device byte2 byte3 ticks : ℕ) (params
   Refusing = RequestRefused p device byte2 byte3 ticks params offset lent
 
   abbrev Into : waiting.Room → Type 0
-  Into room = Given (requestBy room p (pendingOf byte2 byte3 ticks params) (writing.requestFrame device byte2 byte3 params) offset lent)
+  Into room = Given (requestBy room p (waitingRequest byte2 byte3 ticks params) (writing.requestFrame device byte2 byte3 params) offset lent)
 
   pub request-case : Given given
   unfolding requestAt requestBy roomFor
   request-case =
       by-case Given _ (λ e. requestRefused (is9 e))
       (λ e. by-case Given _ (λ q. requestRefused (is10 e (not-true _ q)))
-      (λ q. let f : Fits p device byte2 byte3 ticks params offset lent = record { allowed = e; room = not-false _ q } in by-case Into _ (λ z. requestRefused (is11 f (waits-at p placed _ _ z)))
+      (λ q. let f : Writable p device byte2 byte3 ticks params offset lent = record { allowed = e; room = not-false _ q } in by-case Into _ (λ z. requestRefused (is11 f (waits-at p placed _ _ z)))
       (λ z. let n = none-waits p placed byte2 byte3 z in by-case Into _ (λ y. requestRefused (is12 f n (omega (arith, placed, few-waiting (p .places), leb-true placeCount (countWaiting (p .places)) y))))
       (λ y. accepted f n (leb-false _ _ y)))))
 

@@ -13,7 +13,7 @@ use Rattle.port.specs.Places.{isEmpty, matches, sumOver, countWaiting}
 use Rattle.port.specs.Ticks.{withTicks}
 use Rattle.port.specs.Waiting as waiting
 use Rattle.port.specs.Answers.{Answer, refused, reply, stray, plain, event, failed, radio, notice, Notice, unpaired, paired, emptyList, link, other}
-use Rattle.request.specs.Requesting.{pendingOf}
+use Rattle.request.specs.Requesting.{waitingRequest}
 use Rattle.station.specs.Stations.{positionOf}
 use Rattle.sequence.specs.Steps.{Call, take, request, cancel, tick, write, CallAnswer, taken, written, cancelled, ticked}
 use Rattle.sequence.specs.Transcripts.{Entry}
@@ -128,7 +128,7 @@ isTick (write writer offset lent) = false
 pub data Fate (n : ℕ) (c : Call) (a : CallAnswer) (before after : Request) : Type 0 where
   stays : ((w : Way) → endsBy w n (endingOf c a) before ≡ false) → (isTick c && not (isEmpty before)) ≡ false → after ≡ before → Fate n c a before after
   lowered : c ≡ tick → 1 < before .ticks → after ≡ withTicks before (before .ticks - 1) → Fate n c a before after
-  filled : (byte2 byte3 ticks : ℕ) (params : List ℕ) (offset : ℕ) (lent : List ℕ) → c ≡ request n byte2 byte3 ticks params offset lent → isWritten a ≡ true → isEmpty before ≡ true → after ≡ pendingOf byte2 byte3 ticks params → Fate n c a before after
+  filled : (byte2 byte3 ticks : ℕ) (params : List ℕ) (offset : ℕ) (lent : List ℕ) → c ≡ request n byte2 byte3 ticks params offset lent → isWritten a ≡ true → isEmpty before ≡ true → after ≡ waitingRequest byte2 byte3 ticks params → Fate n c a before after
   emptied : (w : Way) → endsBy w n (endingOf c a) before ≡ true → isEmpty before ≡ false → after ≡ emptyPlace → Fate n c a before after
 
 -- the requests that wait on a port

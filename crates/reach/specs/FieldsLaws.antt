@@ -25,8 +25,8 @@ use Rattle.reach.specs.Fields.{Field, pairing, wpid, bitfield, linkUp, v
 pub data Keeps (listed : Field → Bool) (p q : Port) : Type 0 where
   keeps : ((f : Field) → listed f ≡ false → Same f p q) → Keeps listed p q
 
-pub kept : {listed : Field → Bool} {p q : Port} → Keeps listed p q → (f : Field) → listed f ≡ false → Same f p q
-kept (keeps h) = h
+pub unlisted-kept : {listed : Field → Bool} {p q : Port} → Keeps listed p q → (f : Field) → listed f ≡ false → Same f p q
+unlisted-kept (keeps h) = h
 
 -- field by field
 module _ {listed : Field → Bool} {p q : Port} where

@@ -36,30 +36,30 @@ pub data ReadRefused (bytes : List ℕ) : ℕ → Type 0 where
   is6 : Sized bytes → isHidpp (byte bytes 0) ≡ true → isPort (byte bytes 1) ≡ true → isReserved (byte bytes 2) ≡ true → ReadRefused bytes 6
 
 -- the whole frame does not fit between the offset and the buffer's end
-abbrev pub Short : ℕ → ℕ → List ℕ → Type 0
-Short size offset lent = fitsAt size offset (length lent) ≡ false
+abbrev pub LacksRoom : ℕ → ℕ → List ℕ → Type 0
+LacksRoom size offset lent = fitsAt size offset (length lent) ≡ false
 
 -- the rows that hold
-pub data Row (st : Station) : Call → ℕ → Type 0 where
+pub data RefusalRow (st : Station) : Call → ℕ → Type 0 where
   -- take: 1 to 6 by the bytes; 7 and 8 at the port
-  byBytes : {bytes : List ℕ} {number : ℕ} → ReadRefused bytes number → Row st (take bytes) number
-  byPort : {bytes : List ℕ} {number : ℕ} → readRule bytes ≡ reading.dj (reportFrom djStart bytes) → DjRefused (portFor st (byte bytes 1)) (reportFrom djStart bytes) bytes number → Row st (take bytes) number
+  byBytes : {bytes : List ℕ} {number : ℕ} → ReadRefused bytes number → RefusalRow st (take bytes) number
+  byPort : {bytes : List ℕ} {number : ℕ} → readRule bytes ≡ reading.dj (reportFrom djStart bytes) → DjRefused (portFor st (byte bytes 1)) (reportFrom djStart bytes) bytes number → RefusalRow st (take bytes) number
   -- request: 5; 9, 10, 11, 12 at the port
-  request5 : {device byte2 byte3 ticks : ℕ} {params : List ℕ} {offset : ℕ} {lent : List ℕ} → isPort device ≡ false → Row st (request device byte2 byte3 ticks params offset lent) 5
-  requestAt : {device byte2 byte3 ticks : ℕ} {params : List ℕ} {offset : ℕ} {lent : List ℕ} {number : ℕ} → isPort device ≡ true → RequestRefused (portFor st device) device byte2 byte3 ticks params offset lent number → Row st (request device byte2 byte3 ticks params offset lent) number
+  request5 : {device byte2 byte3 ticks : ℕ} {params : List ℕ} {offset : ℕ} {lent : List ℕ} → isPort device ≡ false → RefusalRow st (request device byte2 byte3 ticks params offset lent) 5
+  requestAt : {device byte2 byte3 ticks : ℕ} {params : List ℕ} {offset : ℕ} {lent : List ℕ} {number : ℕ} → isPort device ≡ true → RequestRefused (portFor st device) device byte2 byte3 ticks params offset lent number → RefusalRow st (request device byte2 byte3 ticks params offset lent) number
   -- cancel: 5, 13
-  cancel5 : {device byte2 byte3 : ℕ} → isPort device ≡ false → Row st (cancel device byte2 byte3) 5
-  cancel13 : {device byte2 byte3 : ℕ} → isPort device ≡ true → ¬ Waits (portFor st device) byte2 byte3 → Row st (cancel device byte2 byte3) 13
+  cancel5 : {device byte2 byte3 : ℕ} → isPort device ≡ false → RefusalRow st (cancel device byte2 byte3) 5
+  cancel13 : {device byte2 byte3 : ℕ} → isPort device ≡ true → ¬ Waits (portFor st device) byte2 byte3 → RefusalRow st (cancel device byte2 byte3) 13
   -- switch: 14, 10
-  switch14 : {bits timeout offset : ℕ} {lent : List ℕ} → hasReservedBits bits ≡ true → Row st (write (switch bits timeout) offset lent) 14
-  switch10 : {bits timeout offset : ℕ} {lent : List ℕ} → hasReservedBits bits ≡ false → Short (length (switchFrame bits timeout)) offset lent → Row st (write (switch bits timeout) offset lent) 10
+  switch14 : {bits timeout offset : ℕ} {lent : List ℕ} → hasReservedBits bits ≡ true → RefusalRow st (write (switch bits timeout) offset lent) 14
+  switch10 : {bits timeout offset : ℕ} {lent : List ℕ} → hasReservedBits bits ≡ false → LacksRoom (length (switchFrame bits timeout)) offset lent → RefusalRow st (write (switch bits timeout) offset lent) 10
   -- get paired: 10
-  getPaired10 : {offset : ℕ} {lent : List ℕ} → Short (length getPairedFrame) offset lent → Row st (write getPaired offset lent) 10
+  getPaired10 : {offset : ℕ} {lent : List ℕ} → LacksRoom (length getPairedFrame) offset lent → RefusalRow st (write getPaired offset lent) 10
   -- LED: 5, 10
-  led5 : {device leds offset : ℕ} {lent : List ℕ} → isDevice device ≡ false → Row st (write (led device leds) offset lent) 5
-  led10 : {device leds offset : ℕ} {lent : List ℕ} → isDevice device ≡ true → Short (length (ledFrame device leds)) offset lent → Row st (write (led device leds) offset lent) 10
+  led5 : {device leds offset : ℕ} {lent : List ℕ} → isDevice device ≡ false → RefusalRow st (write (led device leds) offset lent) 5
+  led10 : {device leds offset : ℕ} {lent : List ℕ} → isDevice device ≡ true → LacksRoom (length (ledFrame device leds)) offset lent → RefusalRow st (write (led device leds) offset lent) 10
   -- the listing: 10
-  list10 : {offset : ℕ} {lent : List ℕ} → Short (length (listing (st .ports))) offset lent → Row st (write list offset lent) 10
+  list10 : {offset : ℕ} {lent : List ℕ} → LacksRoom (length (listing (st .ports))) offset lent → RefusalRow st (write list offset lent) 10
 
 -- the answer is this refusal
 pub data RefusedWith : CallAnswer → ℕ → Type 0 where
@@ -69,4 +69,4 @@ pub data RefusedWith : CallAnswer → ℕ → Type 0 where
 
 -- for every call and number
 abbrev pub ByTheTable : Station → Call → CallAnswer → Type 0
-ByTheTable st c answer = (number : ℕ) → RefusedWith answer number ↔ Row st c number
+ByTheTable st c answer = (number : ℕ) → RefusedWith answer number ↔ RefusalRow st c number

@@ -29,7 +29,7 @@ use Rattle.reach.specs.CallCases as cases
 use Rattle.reach.specs.CallCases.{Waits, RequestRefused, HidppCase, givesFailed, givesReply, givesStray, givesPlain, givesEvent, DjRefused, DjCase, djRefused, RequestCase, requestRefused, CancelCase, refused13, StepCase, unread, hidppAtPort, djAtPort, requestAtPort, cancelAtPort, writeOnly, AllPlaced}
 use Rattle.reach.specs.CallCasesLaws.{step-case, by-cases}
 use Rattle.reach.specs.RefusalTable as table
-use Rattle.reach.specs.RefusalTable.{Sized, ReadRefused, is1, is2, is3, is4, hidpp5, dj5, is6, Row, byBytes, byPort, cancel13, switch14, switch10, getPaired10, led5, led10, list10, RefusedWith, takeWith, writeWith, cancelWith, ByTheTable}
+use Rattle.reach.specs.RefusalTable.{Sized, ReadRefused, is1, is2, is3, is4, hidpp5, dj5, is6, RefusalRow, byBytes, byPort, cancel13, switch14, switch10, getPaired10, led5, led10, list10, RefusedWith, takeWith, writeWith, cancelWith, ByTheTable}
 
 -- why a report is refused
 module _ (bytes : List ℕ) where
@@ -118,17 +118,17 @@ module _ (st : Station) where
   unfolding writing.frameAt
   frame-short frame offset lent e = simp e writeWith
 
-  is-number : {number : ℕ} {m : ℕ} {c : Call} → Row st c m → m ≡ number → Row st c number
-  is-number {c = c} r e = subst (Row st c) e r
+  is-number : {number : ℕ} {m : ℕ} {c : Call} → RefusalRow st c m → m ≡ number → RefusalRow st c number
+  is-number {c = c} r e = subst (RefusalRow st c) e r
 
   same-number : {m number : ℕ} → RefusedWith (written (writing.refused m)) number → m ≡ number
   same-number writeWith = refl
 
-  writer-why : (writer : Writer) (offset : ℕ) (lent : List ℕ) (number : ℕ) → RefusedWith (written (writerRule st writer offset lent .answer)) number → Row st (write writer offset lent) number
+  writer-why : (writer : Writer) (offset : ℕ) (lent : List ℕ) (number : ℕ) → RefusedWith (written (writerRule st writer offset lent .answer)) number → RefusalRow st (write writer offset lent) number
   unfolding writing.switchRule writing.getPairedRule writing.ledRule listingRule
   writer-why (switch bits timeout) offset lent number r = go (writing.hasReservedBits bits) refl r
     where
-      go : (b : Bool) → writing.hasReservedBits bits ≡ b → RefusedWith (written (cond b (writing.kept 14 lent) (writing.frameAt (writing.switchFrame bits timeout) offset lent) .answer)) number → Row st (write (switch bits timeout) offset lent) number
+      go : (b : Bool) → writing.hasReservedBits bits ≡ b → RefusedWith (written (cond b (writing.kept 14 lent) (writing.frameAt (writing.switchFrame bits timeout) offset lent) .answer)) number → RefusalRow st (write (switch bits timeout) offset lent) number
       go true e r = is-number (switch14 e) (same-number r)
       go false e r =
           let h = short-frame (frame-why (writing.switchFrame bits timeout) offset lent) r in is-number (switch10 e (h .1)) (h .0)
@@ -136,7 +136,7 @@ module _ (st : Station) where
       let h = short-frame (frame-why writing.getPairedFrame offset lent) r in is-number (getPaired10 (h .1)) (h .0)
   writer-why (led device leds) offset lent number r = go (isDevice device) refl r
     where
-      go : (b : Bool) → isDevice device ≡ b → RefusedWith (written (cond (not b) (writing.kept 5 lent) (writing.frameAt (writing.ledFrame device leds) offset lent) .answer)) number → Row st (write (led device leds) offset lent) number
+      go : (b : Bool) → isDevice device ≡ b → RefusedWith (written (cond (not b) (writing.kept 5 lent) (writing.frameAt (writing.ledFrame device leds) offset lent) .answer)) number → RefusalRow st (write (led device leds) offset lent) number
       go false e r = is-number (led5 e) (same-number r)
       go true e r =
           let h = short-frame (frame-why (writing.ledFrame device leds) offset lent) r in is-number (led10 e (h .1)) (h .0)
@@ -144,12 +144,12 @@ module _ (st : Station) where
       let h = short-frame (frame-why (listing (st .ports)) offset lent) r in is-number (list10 (h .1)) (h .0)
 
   -- a DJ report at the port that byte 1 names
-  dj-row : {bytes : List ℕ} (r : Report) {number : ℕ} → r ≡ reportFrom djStart bytes → readRule bytes ≡ reading.dj r → DjRefused (view (r .device) st) r bytes number → Row st (take bytes) number
+  dj-row : {bytes : List ℕ} (r : Report) {number : ℕ} → r ≡ reportFrom djStart bytes → readRule bytes ≡ reading.dj r → DjRefused (view (r .device) st) r bytes number → RefusalRow st (take bytes) number
   unfolding reportFrom
   dj-row {bytes} r {number} e =
-      subst (λ (y : Report). readRule bytes ≡ reading.dj y → DjRefused (view (y .device) st) y bytes number → Row st (take bytes) number) (sym e) byPort
+      subst (λ (y : Report). readRule bytes ≡ reading.dj y → DjRefused (view (y .device) st) y bytes number → RefusalRow st (take bytes) number) (sym e) byPort
 
-  case-why : {c : Call} {o : Outcome} {number : ℕ} → StepCase st c o → RefusedWith (o .answer) number → Row st c number
+  case-why : {c : Call} {o : Outcome} {number : ℕ} → StepCase st c o → RefusedWith (o .answer) number → RefusalRow st c number
   case-why (unread {bytes} e) takeWith = byBytes (read-refused bytes _ .0 e)
   case-why (hidppAtPort e h) r = absurd (hidpp-why h r)
   case-why (djAtPort {bytes} {r} e h) q =
@@ -166,7 +166,7 @@ module _ (st : Station) where
     as-case {c} {o} {number} h r =
         subst (λ (x : Outcome). RefusedWith (x .answer) number) (sym (by-cases st placed c o .1 h)) r
 
-    row-refused : {c : Call} {number : ℕ} → Row st c number → RefusedWith (step st c .answer) number
+    row-refused : {c : Call} {number : ℕ} → RefusalRow st c number → RefusedWith (step st c .answer) number
     unfolding step writing.switchRule writing.getPairedRule writing.ledRule listingRule reportFrom
     row-refused (byBytes {bytes} {number} h) = as-case (unread (read-refused bytes number .1 h)) takeWith
     row-refused (byPort {bytes} e h) = as-case (djAtPort e (djRefused h)) takeWith

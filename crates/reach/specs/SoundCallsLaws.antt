@@ -18,7 +18,7 @@ use Rattle.port.specs.Waiting.{waitingAt, endedAt}
 use Rattle.port.specs.Answers.{Result}
 use Rattle.hidpp.specs.declared.Message.{Message}
 use Rattle.hidpp.specs.HidppTaking.{named2, named3, code}
-use Rattle.request.specs.Requesting.{RequestAt, maxTicks, isForbidden, pendingOf}
+use Rattle.request.specs.Requesting.{RequestAt, maxTicks, isForbidden, waitingRequest}
 use Rattle.station.specs.Stations.{receiverPosition}
 use Rattle.sequence.specs.ReadingsLaws.{in-range}
 use Rattle.reach.specs.Sound.{SoundPort}
@@ -71,14 +71,14 @@ module _ (position : ℕ) (p : Port) (s : SoundPort position p) where
   dj-sound last (otherNotice l) = s
 
   pub request-sound : {device byte2 byte3 ticks : ℕ} {params : List ℕ} {offset : ℕ} {lent : List ℕ} {r : RequestAt} → RequestCase p device byte2 byte3 ticks params offset lent r → SoundPort position (r .port)
-  unfolding withPlaces pendingOf
+  unfolding withPlaces waitingRequest
   request-sound (requestRefused h) = s
   request-sound {device} {byte2} {byte3} {ticks} {params} (accepted f n l) =
       let h = allowed byte2 byte3 ticks params (f .allowed) in
       record {
         receiver = s .receiver;
         indexes = s .indexes;
-        waiting = sound-asked (s .waiting) (firstAt isEmpty (p .places)) (pendingOf byte2 byte3 ticks params) (record {
+        waiting = sound-asked (s .waiting) (firstAt isEmpty (p .places)) (waitingRequest byte2 byte3 ticks params) (record {
           ticks = h .0 .1;
           askable = λ q. h .1;
           empty = λ q. absurd (omega (arith, h .0 .0, eqb-true ticks 0 q));

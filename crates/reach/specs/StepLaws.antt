@@ -21,7 +21,7 @@ use Rattle.port.specs.Places.{isEmpty, firstAt, sumOver, oneIfWaiting, countWai
 use Rattle.port.specs.Ticks.{afterTick, oneIfEnding, tickRule}
 use Rattle.port.specs.Answers.{Result}
 use Rattle.hidpp.specs.HidppTaking.{messageOf}
-use Rattle.request.specs.Requesting.{RequestAt, pendingOf}
+use Rattle.request.specs.Requesting.{RequestAt, waitingRequest}
 use Rattle.station.specs.declared.Station.{Station}
 use Rattle.station.specs.Stations.{portCount, positionOf, freshStation, noPort, portAt, withPort}
 use Rattle.station.specs.StationsLaws.{position-within}
@@ -45,7 +45,7 @@ use Rattle.reach.specs.CallCasesLaws.{and-false, empty-place, step-case}
 use Rattle.reach.specs.Ends.{isTick, takeEnding, Way, byReply, byError, byExpiry, byCancel, byDrop, isWay, endingOf, nothing, endsBy, oneIf, begunOn, Fate, stays, lowered, filled, emptied, waitingOn, EndsAt, endedIn, begunIn, Accounted}
 use Rattle.reach.specs.EndsLaws.{Elsewhere, sum-zero, Change, same, empties, EndingAt, elsewhere as ends-elsewhere, hidpp-ends, dj-ends, cancel-ends, hidpp-apart, dj-apart, cancel-apart}
 use Rattle.reach.specs.Fields.{Field, takeLists, ChangesListed, Same}
-use Rattle.reach.specs.FieldsLaws.{Keeps, kept, keeps-all, hidpp-keeps, dj-keeps, request-keeps, cancel-keeps, tick-keeps}
+use Rattle.reach.specs.FieldsLaws.{Keeps, unlisted-kept, keeps-all, hidpp-keeps, dj-keeps, request-keeps, cancel-keeps, tick-keeps}
 
 pub all-placed : {st : Station} → Reached st → AllPlaced st
 all-placed k position h = k .each position h .waiting .all
@@ -61,7 +61,7 @@ ends-only n c a t z e =
 
 -- a request that is accepted fills the lowest empty place
 filled-at : (n byte2 byte3 ticks : ℕ) (params : List ℕ) (offset : ℕ) (lent : List ℕ) (p : Port) {r : RequestAt} → Placed p → RequestCase p n byte2 byte3 ticks params offset lent r → EndsAt n (request n byte2 byte3 ticks params offset lent) (written (r .answer)) p (r .port)
-unfolding withPlaces pendingOf
+unfolding withPlaces waitingRequest
 filled-at n byte2 byte3 ticks params offset lent p placed (requestRefused h) =
     ends-only n (request n byte2 byte3 ticks params offset lent) (written (writing.refused _)) refl (simp (eq-eqb n n refl)) (ends-elsewhere n p p nothing tt refl)
 filled-at n byte2 byte3 ticks params offset lent p {r} placed (accepted f _ l) =
@@ -75,7 +75,7 @@ filled-at n byte2 byte3 ticks params offset lent p {r} placed (accepted f _ l) =
     free = firstAt isEmpty (p .places)
 
     new : Request
-    new = pendingOf byte2 byte3 ticks params
+    new = waitingRequest byte2 byte3 ticks params
 
     within : firstAt isEmpty (p .places) < length (p .places)
     within = empty-place p placed l
@@ -86,16 +86,16 @@ filled-at n byte2 byte3 ticks params offset lent p {r} placed (accepted f _ l) =
     before : oneIfWaiting (requestIn (p .places) (firstAt isEmpty (p .places))) ≡ 0
     before = ap (λ (b : Bool). cond b 0 1) was
 
-    after : oneIfWaiting (pendingOf byte2 byte3 ticks params) ≡ 1
+    after : oneIfWaiting (waitingRequest byte2 byte3 ticks params) ≡ 1
     after = simp (ne-eqb ticks 0 (omega (arith, allowed byte2 byte3 ticks params (f .allowed) .0 .0)))
 
-    go : (place : ℕ) → Dec (place ≡ firstAt isEmpty (p .places)) → Fate n (request n byte2 byte3 ticks params offset lent) (written (r .answer)) (requestIn (p .places) place) (requestIn (set (p .places) (firstAt isEmpty (p .places)) (pendingOf byte2 byte3 ticks params)) place)
+    go : (place : ℕ) → Dec (place ≡ firstAt isEmpty (p .places)) → Fate n (request n byte2 byte3 ticks params offset lent) (written (r .answer)) (requestIn (p .places) place) (requestIn (set (p .places) (firstAt isEmpty (p .places)) (waitingRequest byte2 byte3 ticks params)) place)
     go place (yes e) =
         filled byte2 byte3 ticks params offset lent refl refl
         (subst (λ (i : ℕ). isEmpty (requestIn (p .places) i) ≡ true) (sym e) was)
-        (subst (λ (i : ℕ). requestIn (set (p .places) (firstAt isEmpty (p .places)) (pendingOf byte2 byte3 ticks params)) i ≡ pendingOf byte2 byte3 ticks params) (sym e) (getD-set-same (p .places) (firstAt isEmpty (p .places)) (pendingOf byte2 byte3 ticks params) emptyPlace within))
+        (subst (λ (i : ℕ). requestIn (set (p .places) (firstAt isEmpty (p .places)) (waitingRequest byte2 byte3 ticks params)) i ≡ waitingRequest byte2 byte3 ticks params) (sym e) (getD-set-same (p .places) (firstAt isEmpty (p .places)) (waitingRequest byte2 byte3 ticks params) emptyPlace within))
     go place (no e) =
-        stays (λ w. refl) refl (getD-set-other (p .places) (firstAt isEmpty (p .places)) place (pendingOf byte2 byte3 ticks params) emptyPlace e)
+        stays (λ w. refl) refl (getD-set-other (p .places) (firstAt isEmpty (p .places)) place (waitingRequest byte2 byte3 ticks params) emptyPlace e)
 
 -- a tick ends those with one tick left
 tick-place : (r : Request) → oneIfWaiting (afterTick r) + oneIfEnding r ≡ oneIfWaiting r
@@ -180,7 +180,7 @@ module _ (st : Station) (k : Reached st) where
       record {
         reached = k;
         ends = λ n h. ends-only n c a t (z n) (e n);
-        changes = λ n h. kept (keeps-all _ (view n st));
+        changes = λ n h. unlisted-kept (keeps-all _ (view n st));
       }
 
   nothing-ends : (n : ℕ) → EndingAt n nothing (view n st) (view n st)
@@ -188,14 +188,14 @@ module _ (st : Station) (k : Reached st) where
 
   -- what is listed at the port that a call names
   listed-at : {number device : ℕ} {listed : Field → Bool} {p q : Port} → number ≡ device → Keeps listed p q → (f : Field) → (eqb number device && listed f) ≡ false → Same f p q
-  listed-at {number} {device} e s f h = kept s f (simp (eq-eqb number device e) at h)
+  listed-at {number} {device} e s f h = unlisted-kept s f (simp (eq-eqb number device e) at h)
 
   taken-at : (bytes : List ℕ) (device : ℕ) (x : Result) → isPort device ≡ true → byte bytes 1 ≡ device → SoundPort (positionOf device) (x .port) → EndingAt device (takeEnding (x .answer)) (view device st) (x .port) → ((n : ℕ) → eqb device n ≡ false → Elsewhere n (takeEnding (x .answer))) → Keeps (takeLists (view device st) (x .answer)) (view device st) (x .port) → Steps st (take bytes) (takeStep bytes (storedAt st (positionOf device) x))
   taken-at bytes device x d e sound ends apart fields =
       record {
         reached = reached-with (positionOf device) (position-within device) (x .port) sound;
         ends = λ n h. at-port (λ i p q. EndsAt i (take bytes) (taken (x .answer)) p q) device n (x .port) d h (ends-only device (take bytes) (taken (x .answer)) refl refl ends) (λ z. ends-only n (take bytes) (taken (x .answer)) refl refl (ends-elsewhere n (view n st) (view n st) (takeEnding (x .answer)) (apart n z) refl));
-        changes = λ n h. at-port (λ i p q. ChangesListed i (take bytes) (taken (x .answer)) p q) device n (x .port) d h (listed-at e fields) (λ z. kept (keeps-all _ (view n st)));
+        changes = λ n h. at-port (λ i p q. ChangesListed i (take bytes) (taken (x .answer)) p q) device n (x .port) d h (listed-at e fields) (λ z. unlisted-kept (keeps-all _ (view n st)));
       }
 
   device-in : (start : ℕ) (bytes : List ℕ) {r : Report} → r ≡ reportFrom start bytes → byte bytes 1 ≡ r .device
@@ -214,7 +214,7 @@ module _ (st : Station) (k : Reached st) where
           each = λ position h. subst (SoundPort position) (sym (ticked-at st position)) (tick-sound position (portAt st position) (k .each position h));
         };
         ends = λ n h. subst (EndsAt n tick (ticked (tickAll st .ended)) (view n st)) (sym (ticked-at st (positionOf n))) (tick-ends n (tickAll st .ended) (view n st) (counted-at st (positionOf n)));
-        changes = λ n h. subst (ChangesListed n tick (ticked (tickAll st .ended)) (view n st)) (sym (ticked-at st (positionOf n))) (kept (tick-keeps (view n st)));
+        changes = λ n h. subst (ChangesListed n tick (ticked (tickAll st .ended)) (view n st)) (sym (ticked-at st (positionOf n))) (unlisted-kept (tick-keeps (view n st)));
       }
 
   case-steps : {c : Call} {o : Outcome} → StepCase st c o → Steps st c o
@@ -236,7 +236,7 @@ module _ (st : Station) (k : Reached st) where
       record {
         reached = reached-with (positionOf device) (position-within device) (x .port) (request-sound _ _ s h);
         ends = λ n g. at-port (λ i p q. EndsAt i c (written (x .answer)) p q) device n (x .port) e g (filled-at device byte2 byte3 ticks params offset lent _ (s .waiting .all) h) (λ z. ends-only n c (written (x .answer)) refl (simp z) (nothing-ends n));
-        changes = λ n g. at-port (λ i p q. ChangesListed i c (written (x .answer)) p q) device n (x .port) e g (listed-at {number = device} refl (request-keeps h)) (λ z. kept (keeps-all _ (view n st)));
+        changes = λ n g. at-port (λ i p q. ChangesListed i c (written (x .answer)) p q) device n (x .port) e g (listed-at {number = device} refl (request-keeps h)) (λ z. unlisted-kept (keeps-all _ (view n st)));
       }
   case-steps (cancel5 e) = idle refl (λ n. refl) nothing-ends [] []
   case-steps (cancelAtPort {device} {byte2} {byte3} {x} e h) =
@@ -245,14 +245,14 @@ module _ (st : Station) (k : Reached st) where
       record {
         reached = reached-with (positionOf device) (position-within device) (x .port) (cancel-sound _ _ s h);
         ends = λ n g. at-port (λ i p q. EndsAt i c (cancelled (x .answer)) p q) device n (x .port) e g (ends-only device c (cancelled (x .answer)) refl refl (cancel-ends _ (s .waiting) device h)) (λ z. ends-only n c (cancelled (x .answer)) refl refl (ends-elsewhere n (view n st) (view n st) _ (cancel-apart n device h z) refl));
-        changes = λ n g. at-port (λ i p q. ChangesListed i c (cancelled (x .answer)) p q) device n (x .port) e g (listed-at {number = device} refl (cancel-keeps h)) (λ z. kept (keeps-all _ (view n st)));
+        changes = λ n g. at-port (λ i p q. ChangesListed i c (cancelled (x .answer)) p q) device n (x .port) e g (listed-at {number = device} refl (cancel-keeps h)) (λ z. unlisted-kept (keeps-all _ (view n st)));
       }
   case-steps tickAllPorts = on-tick
   case-steps (writeOnly {writer} {offset} {lent}) =
       record {
         reached = k;
         ends = λ n h. ends-only n (write writer offset lent) (written _) refl refl (nothing-ends n);
-        changes = λ n h. kept (keeps-all _ (view n st));
+        changes = λ n h. unlisted-kept (keeps-all _ (view n st));
       }
 
   steps : (c : Call) → Steps st c (step st c)

@@ -15,7 +15,7 @@ use Rattle.replay_desk.specs.LineAnswers.{answerRoom}
 use Rattle.replay_script.specs.ReplayRuns.{Unbroken, Ran, before, runRule}
 use Rattle.replay_feed.specs.declared.State.{State}
 use Rattle.replay_feed.specs.LongLines.{longest}
-use Rattle.replay_feed.specs.Turns.{isEmpty, Pending, atStart, Turned, feedRule, endRule, turnRule, refusedTurn, toCome}
+use Rattle.replay_feed.specs.Turns.{isNothing, Pending, atStart, Turned, feedRule, endRule, turnRule, refusedTurn, toCome}
 use Rattle.replay_feed.specs.TurnContracts.{heldOf, inputOf, pendingOf, turnedOf, Starts, Standing, readOffset, isReady, turnFor, Leaves}
 use Rattle.replay_feed.specs.TurnRuleLaws.{Sound, sound-start, GoesOn, feed-comes, feed-sound, feed-goes, feed-shorter, Ended, end-comes}
 use Rattle.replay_feed.specs.TurnLaws.{Ready, ready, is-ready}
@@ -25,7 +25,7 @@ no : {A : Type 0} → true ≡ false → A
 no e = absurd (subst T e tt)
 
 -- a list without an element
-empty : (l : List ℕ) → isEmpty l ≡ true → l ≡ []
+empty : (l : List ℕ) → isNothing l ≡ true → l ≡ []
 empty [] e = refl
 empty (c ∷ l) e = no (sym e)
 
@@ -82,14 +82,14 @@ module _ (s r : State) (buffer b o b₁ o₁ : List ℕ) (count : ℕ) (k : Loop
   abbrev input : List ℕ
   input = inputOf s count b
 
-  module _ (e : (s .reading && isEmpty input) ≡ true) (is : turnedOf r b₁ o₁ ≡ endRule (length o) p) where
+  module _ (e : (s .reading && isNothing input) ≡ true) (is : turnedOf r b₁ o₁ ≡ endRule (length o) p) where
     ended : Ended p (turnedOf r b₁ o₁)
     ended =
         subst (Ended p) (sym is)
-        (end-comes (length o) (k .large .answer) p (subst (λ (q : Pending). Unbroken (q .held)) (sym same) (k .sound .part (both (s .reading) (isEmpty input) e .0))))
+        (end-comes (length o) (k .large .answer) p (subst (λ (q : Pending). Unbroken (q .held)) (sym same) (k .sound .part (both (s .reading) (isNothing input) e .0))))
 
     nothing : input ++ [] ≡ []
-    nothing = append-nil input ∙ empty input (both (s .reading) (isEmpty input) e .1)
+    nothing = append-nil input ∙ empty input (both (s .reading) (isNothing input) e .1)
 
     last-turn : {following text : List ℕ} {end : State} → Loop r b₁ o₁ following text end → Result s buffer (input ++ following) (take (r .filled) o₁ ++ text) end
     last-turn {following} {text} {end} loop =
@@ -139,7 +139,7 @@ module _ (s r : State) (buffer b o b₁ o₁ : List ℕ) (count : ℕ) (k : Loop
 
 -- a turn of the loop
 module _ (s r : State) (buffer b o b₁ o₁ : List ℕ) (count : ℕ) (k : Looping s buffer o) (at : ReadAt (readOffset s (length buffer)) count buffer b) (is : turnedOf r b₁ o₁ ≡ turnFor s count b (length o)) (leaves : Leaves s count b o r b₁ o₁) {input text : List ℕ} {end : State} (loop : Loop r b₁ o₁ input text end) (next : Looping r b₁ o₁ → Result r b₁ input text end) where
-  by-end : (t : Bool) → (s .reading && isEmpty (inputOf s count b)) ≡ t → turnedOf r b₁ o₁ ≡ cond t (endRule (length o) (pendingOf s b)) (feedRule (length b) (length o) (pendingOf s b) (inputOf s count b))
+  by-end : (t : Bool) → (s .reading && isNothing (inputOf s count b)) ≡ t → turnedOf r b₁ o₁ ≡ cond t (endRule (length o) (pendingOf s b)) (feedRule (length b) (length o) (pendingOf s b) (inputOf s count b))
   unfolding turnRule
   by-end t e =
       is
@@ -156,14 +156,14 @@ module _ (s r : State) (buffer b o b₁ o₁ : List ℕ) (count : ℕ) (k : Loop
         answer = omega (arith, k .large .answer, leaves .same-output);
       }
 
-  turn-by : (t : Bool) → (s .reading && isEmpty (inputOf s count b)) ≡ t → Result s buffer (inputOf s count b ++ input) (take (r .filled) o₁ ++ text) end
+  turn-by : (t : Bool) → (s .reading && isNothing (inputOf s count b)) ≡ t → Result s buffer (inputOf s count b ++ input) (take (r .filled) o₁ ++ text) end
   turn-by true e = last-turn s r buffer b o b₁ o₁ count k (still-pending k at) e (by-end true e) loop
   turn-by false e =
       fed-turn s r buffer b o b₁ o₁ count k (still-pending k at) line (by-end false e)
       (next (fed-looping s r buffer b o b₁ o₁ count k (still-pending k at) line (by-end false e) (leaves .standing (can k at)) enough))
 
   turn-result : Result s buffer (inputOf s count b ++ input) (take (r .filled) o₁ ++ text) end
-  turn-result = turn-by (s .reading && isEmpty (inputOf s count b)) refl
+  turn-result = turn-by (s .reading && isNothing (inputOf s count b)) refl
 
 result : {s end : State} {buffer output input text : List ℕ} → Looping s buffer output → Loop s buffer output input text end → Result s buffer input text end
 result {s} {end} {buffer} k done =
@@ -203,7 +203,7 @@ module _ (s r : State) (b o b₁ o₁ : List ℕ) (waits : s .reading ≡ false)
       let fed : turnedOf r b₁ o₁ ≡ feedRule (length b) (length o) (pendingOf s b) [] =
       is
       ∙ ap (λ (x : Bool). cond x (turnRule (length b) (length o) (pendingOf s b) []) (refusedTurn (pendingOf s b))) e
-      ∙ ap (λ (x : Bool). cond (x && isEmpty []) (endRule (length o) (pendingOf s b)) (feedRule (length b) (length o) (pendingOf s b) [])) waits in
+      ∙ ap (λ (x : Bool). cond (x && isNothing []) (endRule (length o) (pendingOf s b)) (feedRule (length b) (length o) (pendingOf s b) [])) waits in
       let less = feed-shorter (length b) (length o) (ready s 0 (length b) (length o) e .large) (pendingOf s b) [] (ready s 0 (length b) (length o) e .answer) (sym (ap (λ (t : Turned). t .after .reading) fed) ∙ waiting) in
       omega (arith, less, ap (λ (t : Turned). length (t .after .held)) fed)
   shorter-by false e =

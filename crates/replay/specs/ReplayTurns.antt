@@ -4,8 +4,9 @@ use mathlib.Core.Path.{_≡_}
 use mathlib.Core.Bool.{true, false}
 use mathlib.Core.List.{List, [], _++_}
 use lib.ListN.{length, take}
-use denote.Ref.{RefT, now}
+use denote.Ref.{now}
 use Rattle.station.specs.Stations.{freshStation}
+use Rattle.sequence.specs.Histories.{LentBytes}
 use Rattle.replay_desk.specs.LineAnswers.{answerRoom}
 use Rattle.replay_script.specs.ReplayRuns.{runRule}
 use Rattle.replay_feed.specs.declared.State.{State}
@@ -14,10 +15,6 @@ use Rattle.replay_feed.specs.TurnContracts.{heldOf, inputOf}
 use Rattle.replay_feed.proofs.start.Reads as start-reads
 use Rattle.replay_feed.proofs.read_offset.Reads as offset-reads
 use Rattle.replay_feed.proofs.turn.Reads as turn-reads
-
--- bytes that are lent: a reference r, whose bytes are `now r`
-abbrev Lent : Type 0
-Lent = RefT (List ℕ)
 
 -- a read to an offset of the input buffer leaves what is before it, and the bytes that it brings fit behind it
 pub record ReadAt (offset count : ℕ) (buffer after : List ℕ) : Type 0 where
@@ -28,7 +25,7 @@ pub record ReadAt (offset count : ℕ) (buffer after : List ℕ) : Type 0 where
 -- the loop, from a state and what the two buffers hold to the state that it leaves: while another turn is to follow, a read to the offset that the program gives, and the program's turn, whose answers are written. `input` is all that was read, `text` all that was written
 pub data Loop : State → (buffer output input text : List ℕ) → State → Type 0 where
   done : {s : State} {buffer output : List ℕ} → Loop s buffer output [] [] s
-  turned : {s r end : State} {input text : List ℕ} (κ κ′ κ″ : List ℕ) (buffer read after output written : Lent) (offset count : ℕ) → s .going ≡ true → offset-reads.Learnt (κ, tt) (s, (buffer, tt)) offset (s, (buffer, tt)) → ReadAt offset count (now buffer) (now read) → turn-reads.Learnt (κ′, (κ″, tt)) (s, (read, (count, (output, tt)))) r (s, (after, (count, (written, tt)))) → Loop r (now after) (now written) input text end → Loop s (now buffer) (now output) (inputOf s count (now read) ++ input) (take (r .filled) (now written) ++ text) end
+  turned : {s r end : State} {input text : List ℕ} (κ κ′ κ″ : List ℕ) (buffer read after output written : LentBytes) (offset count : ℕ) → s .going ≡ true → offset-reads.Learnt (κ, tt) (s, (buffer, tt)) offset (s, (buffer, tt)) → ReadAt offset count (now buffer) (now read) → turn-reads.Learnt (κ′, (κ″, tt)) (s, (read, (count, (output, tt)))) r (s, (after, (count, (written, tt)))) → Loop r (now after) (now written) input text end → Loop s (now buffer) (now output) (inputOf s count (now read) ++ input) (take (r .filled) (now written) ++ text) end
 
 -- the buffers are large enough for a line and for any answer
 pub record Large (buffer output : List ℕ) : Type 0 where
@@ -49,4 +46,4 @@ pub record Replays : Type 0 where
   -- the loop ends only where the script is whole: no turn is refused
   pub ends : {s end : State} {buffer output input text : List ℕ} → start-reads.Learnt tt tt s tt → Large buffer output → Loop s buffer output input text end → end .going ≡ false → end .whole ≡ true
   -- a turn on whole lines that wait for room answers some: where others still wait, less is held than there was
-  pub answers-some : {s r : State} (κ κ′ : List ℕ) (buffer after output written : Lent) → s .reading ≡ false → turn-reads.Learnt (κ, (κ′, tt)) (s, (buffer, (0, (output, tt)))) r (s, (after, (0, (written, tt)))) → r .going ≡ true → r .reading ≡ false → length (heldOf r (now after)) < length (heldOf s (now buffer))
+  pub answers-some : {s r : State} (κ κ′ : List ℕ) (buffer after output written : LentBytes) → s .reading ≡ false → turn-reads.Learnt (κ, (κ′, tt)) (s, (buffer, (0, (output, tt)))) r (s, (after, (0, (written, tt)))) → r .going ≡ true → r .reading ≡ false → length (heldOf r (now after)) < length (heldOf s (now buffer))

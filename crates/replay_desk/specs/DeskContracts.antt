@@ -12,7 +12,7 @@ use Rattle.station.specs.StationCalls.{RequestOutcome}
 use Rattle.replay_render.specs.AnswerLines.{writtenText}
 use Rattle.replay_desk.specs.declared.Answered.{Answered}
 use Rattle.replay_desk.specs.declared.Shown.{Shown}
-use Rattle.replay_desk.specs.LineAnswers.{Answer, LineOutcome}
+use Rattle.replay_desk.specs.LineAnswers.{LineAnswer, LineOutcome}
 
 -- how answering a line ended: its answer, the next station, and the buffer that it left
 abbrev pub answeredBy : Answered → List ℕ → LineOutcome
@@ -27,10 +27,10 @@ abbrev pub endOf : ℕ → Answered → ℕ
 endOf at r = endBy at (r .answer)
 
 -- the whole text is at its offset, and the next station is handed back
-pub record Shows (a : Answer) (at : ℕ) (b : List ℕ) (r : Shown) (b₁ : List ℕ) : Type 0 where
+pub record Shows (a : LineAnswer) (at : ℕ) (b : List ℕ) (r : Shown) (b₁ : List ℕ) : Type 0 where
   pub text : filled (r .next) b₁ ≡ filled (at + length (a .text)) (pasted (a .text) at b)
   pub station : r .station ≡ a .station
 
 -- the text of what a writer gave on its lent buffer
-abbrev pub writtenBy : RequestOutcome → Answer
+abbrev pub writtenBy : RequestOutcome → LineAnswer
 writtenBy o = record { text = writtenText (o .answer) (o .lent); station = o .station }

@@ -17,12 +17,12 @@ use Rattle.replay_render.specs.AnswerLines.{lentMost, writtenText, cancelledTex
 use Rattle.replay_dump.specs.DumpLines.{dumpText}
 
 -- its text, and the next station
-pub record Answer : Type 0 where
+pub record LineAnswer : Type 0 where
   pub text : List ℕ
   pub station : Station
 
 -- the station as it is
-abbrev pub keeping : Station → List ℕ → Answer
+abbrev pub keeping : Station → List ℕ → LineAnswer
 keeping st text = record { text = text; station = st }
 
 -- what a call of the station answers; a writer's with the whole lent buffer after the call
@@ -33,11 +33,11 @@ callText (steps.cancelled answer) lent = cancelledText answer
 callText (steps.ticked counts) lent = endedText counts
 
 -- a step of the station
-abbrev pub stepped : steps.Outcome → Answer
+abbrev pub stepped : steps.Outcome → LineAnswer
 stepped o = record { text = callText (o .answer) (o .lent); station = o .station }
 
 -- the call that each writer is; a frame alone needs no station
-unfoldable pub writerStep : Station → commands.Writer → (offset : ℕ) → (params lent : List ℕ) → steps.Outcome
+unfoldable pub writerStep : Station → commands.LineWriter → (offset : ℕ) → (params lent : List ℕ) → steps.Outcome
 writerStep st (commands.request port byte2 byte3 ticks) offset params lent =
     steps.step st (steps.request port byte2 byte3 ticks params offset lent)
 writerStep st (commands.switch bits timeout) offset params lent =
@@ -59,7 +59,7 @@ abbrev pub lentBuffer : ℕ → List ℕ
 lentBuffer room = replicate room lentByte
 
 -- an empty line or a comment gives no output; a line that is no call leaves the station as it is; the calls are those of the rules
-unfoldable pub commandRule : Station → (number : ℕ) → commands.Command → Answer
+unfoldable pub commandRule : Station → (number : ℕ) → commands.Command → LineAnswer
 commandRule st number commands.blank = keeping st []
 commandRule st number commands.noCall = keeping st (noCallText number)
 commandRule st number (commands.take bytes) = stepped (steps.step st (steps.take bytes))
@@ -87,7 +87,7 @@ pub record LineOutcome : Type 0 where
   pub lent : List ℕ
 
 -- the text at its offset; the bytes before and after it keep their values
-abbrev pub put : Answer → ℕ → List ℕ → LineOutcome
+abbrev pub put : LineAnswer → ℕ → List ℕ → LineOutcome
 put a offset lent =
     record {
       answer = writing.wrote (length (a .text));

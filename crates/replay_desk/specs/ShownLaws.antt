@@ -16,24 +16,24 @@ use Rattle.text.specs.PuttingLaws.{whole-with-room}
 use Rattle.replay_line.specs.Commands.{Command}
 use Rattle.replay_line.specs.LineFields.{mostLent}
 use Rattle.replay_line.specs.LineCalls.{lineRule}
-use Rattle.replay_line.specs.LineContracts.{roomOf}
+use Rattle.replay_line.specs.LineContracts.{lentRoom}
 use Rattle.replay_line.specs.LineBoundsLaws.{line-lends}
 use Rattle.replay_render.specs.AnswerLines.{writtenMost}
 use Rattle.replay_desk.specs.declared.Shown.{Shown}
-use Rattle.replay_desk.specs.LineAnswers.{Answer, commandRule, answerRoom, put, answerRule}
+use Rattle.replay_desk.specs.LineAnswers.{LineAnswer, commandRule, answerRoom, put, answerRule}
 use Rattle.replay_desk.specs.DeskContracts.{Shows}
 
 -- a text whose room is within that of any answer is put whole
-pub shown : {an a : Answer} {most at : ℕ} {b : List ℕ} {next : ℕ} {b₁ : List ℕ} → writing.fitsAt answerRoom at (length b) ≡ true → most ≤ answerRoom → an ≡ a → filled next b₁ ≡ wholeRule most (an .text) at b → Shows a at b (record { next = next; station = an .station }) b₁
+pub shown : {an a : LineAnswer} {most at : ℕ} {b : List ℕ} {next : ℕ} {b₁ : List ℕ} → writing.fitsAt answerRoom at (length b) ≡ true → most ≤ answerRoom → an ≡ a → filled next b₁ ≡ wholeRule most (an .text) at b → Shows a at b (record { next = next; station = an .station }) b₁
 shown {an} {a} {most} {at} {b} room h e p =
     let wide : at + answerRoom ≤ length b = leb-true _ _ room in
     record {
-      text = p ∙ whole-with-room most (an .text) at b (omega (arith, wide, h)) ∙ ap (λ (x : Answer). filled (at + length (x .text)) (writing.pasted (x .text) at b)) e;
-      station = ap (λ (x : Answer). x .station) e;
+      text = p ∙ whole-with-room most (an .text) at b (omega (arith, wide, h)) ∙ ap (λ (x : LineAnswer). filled (at + length (x .text)) (writing.pasted (x .text) at b)) e;
+      station = ap (λ (x : LineAnswer). x .station) e;
     }
 
-pub re-shown : {at : ℕ} {b : List ℕ} {r : Shown} {b₁ : List ℕ} {a a' : Answer} → a ≡ a' → Shows a at b r b₁ → Shows a' at b r b₁
-re-shown {at} {b} {r} {b₁} e s = subst (λ (a : Answer). Shows a at b r b₁) e s
+pub re-shown : {at : ℕ} {b : List ℕ} {r : Shown} {b₁ : List ℕ} {a a' : LineAnswer} → a ≡ a' → Shows a at b r b₁ → Shows a' at b r b₁
+re-shown {at} {b} {r} {b₁} e s = subst (λ (a : LineAnswer). Shows a at b r b₁) e s
 
 -- a writer's line takes no more, with any buffer that is lent
 pub written-room : {n : ℕ} → n ≤ mostLent → writtenMost n ≤ answerRoom
@@ -49,8 +49,8 @@ pub lent-size : (x room n : ℕ) → room ≤ n → room ≡ length (take room (
 lent-size x room n h = sym (ap length (front x room n h) ∙ length-replicate room x)
 
 -- a line is lent no more than the longest buffer
-pub lends-little : (line : List ℕ) (command : Command) → command ≡ lineRule line → roomOf command ≤ mostLent
-lends-little line command e = subst (λ (c : Command). roomOf c ≤ mostLent) (sym e) (line-lends line)
+pub lends-little : (line : List ℕ) (command : Command) → command ≡ lineRule line → lentRoom command ≤ mostLent
+lends-little line command e = subst (λ (c : Command). lentRoom c ≤ mostLent) (sym e) (line-lends line)
 
 -- a line whose answer has its room
 module _ (st : Station) (number : ℕ) (line : List ℕ) (at : ℕ) (b : List ℕ) where

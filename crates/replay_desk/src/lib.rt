@@ -5,7 +5,7 @@ ghost use Prim.Native.Nat.{_≤_};
 ghost use lib.ListN.{length};
 ghost use Rattle.frame.specs.Writing.{fitsAt};
 ghost use Rattle.replay_line.specs.LineFields.{mostLent};
-ghost use Rattle.replay_line.specs.LineContracts.{writerOf, commandOf, roomOf};
+ghost use Rattle.replay_line.specs.LineContracts.{writerOf, commandOf, lentRoom};
 ghost use Rattle.sequence.specs.Steps as steps;
 ghost use Rattle.replay_desk.specs.LineAnswers.{answerRoom, stepped, writerStep, lentBuffer, commandRule, answerRule};
 ghost use Rattle.replay_desk.specs.DeskContracts.{answeredBy, endOf, Shows, writtenBy};
@@ -173,7 +173,7 @@ fn respond(
     at: usize,
 ) -> Shown
     requires room { ⌜ fitsAt answerRoom at (length (now buffer)) ≡ true ⌝ }
-    requires lent { ⌜ roomOf (commandOf command (now bytes)) ≤ mostLent ⌝ }
+    requires lent { ⌜ lentRoom (commandOf command (now bytes)) ≤ mostLent ⌝ }
     ensures { λ r. ⌜ Shows (commandRule station number (commandOf command (now (bytes .entry)))) at (now (buffer .entry)) r (now (buffer .exit)) ⌝ }
 {
     let next = match command {

@@ -11,7 +11,7 @@ use borrow.Author.Tests.{leb-true}
 use Rattle.report.specs.Sizes.{byte}
 use Rattle.replay_line.specs.LineWords.{space, wordsAfter, words}
 use Rattle.replay_line.specs.Commands.{Command, blank, noCall}
-use Rattle.replay_line.specs.LineCalls.{callOf, withoutReturn, textRule, lineRule}
+use Rattle.replay_line.specs.LineCalls.{commandIn, withoutReturn, textRule, lineRule}
 use Rattle.replay_feed.specs.LongLines.{squeezed, squeezedLine, longest, isCut, shortened}
 use Rattle.replay_feed.specs.ShortLaws.{return-behind, nonempty-text, first-kept, same-line}
 use Rattle.replay_line.specs.LineBoundsLaws.{sizeOf, callMost, long-is-none}
@@ -58,7 +58,7 @@ longer after (c ∷ text) more =
 abbrev tooLong : ℕ
 tooLong = callMost + 2
 
-none-called : (text : List ℕ) → tooLong ≤ length (squeezed false text) → callOf (words text) ≡ noCall
+none-called : (text : List ℕ) → tooLong ≤ length (squeezed false text) → commandIn (words text) ≡ noCall
 unfolding words
 none-called text h = long-is-none (wordsAfter [] text) (omega (arith, h, counted text .whole))
 
@@ -79,7 +79,7 @@ kept-front after (suc n) (c ∷ text) =
     front-by after n c text (kept-front after (suc n) text) (kept-front (eqb c space) n text) (eqb c space && after) refl
 
 -- the first byte alone decides where the words of a text are no call
-by-first-byte : (c : ℕ) (text : List ℕ) → callOf (words (c ∷ text)) ≡ noCall → textRule (c ∷ text) ≡ cond (eqb c 35) blank noCall
+by-first-byte : (c : ℕ) (text : List ℕ) → commandIn (words (c ∷ text)) ≡ noCall → textRule (c ∷ text) ≡ cond (eqb c 35) blank noCall
 by-first-byte c text e =
     nonempty-text c text ∙ ap (λ (k : Command). cond (eqb c 35) blank k) e
 
@@ -88,7 +88,7 @@ module _ (c : ℕ) (text : List ℕ) (n : ℕ) (long : tooLong ≤ suc n) (enoug
   front-text : textRule (take (suc n) (squeezed false (c ∷ text))) ≡ cond (eqb c 35) blank noCall
   front-text =
       ap textRule begins
-      ∙ by-first-byte c (take n (squeezed (eqb c space) text)) (ap (λ (l : List ℕ). callOf (words l)) (sym begins) ∙ none-called (take (suc n) (squeezed false (c ∷ text))) size)
+      ∙ by-first-byte c (take n (squeezed (eqb c space) text)) (ap (λ (l : List ℕ). commandIn (words l)) (sym begins) ∙ none-called (take (suc n) (squeezed false (c ∷ text))) size)
     where
       begins : take (suc n) (squeezed false (c ∷ text)) ≡ c ∷ take n (squeezed (eqb c space) text)
       begins = ap (take (suc n)) (first-kept c text)

@@ -14,19 +14,19 @@ use Rattle.bytes.specs.Bytes.{indexOf, indexAfter, slice}
 use Rattle.station.specs.declared.Station.{Station}
 use Rattle.replay_script.specs.declared.Progress.{Progress}
 use Rattle.replay_script.specs.ScriptContracts.{shareOf}
-use Rattle.replay_script.specs.ReplayRuns.{newline}
+use Rattle.text.specs.Words.{newline}
 use Rattle.replay_script.specs.Shares.{Share, shareRule}
 use Rattle.replay_feed.specs.declared.State.{State}
 use Rattle.replay_feed.specs.declared.input.Held.{Held}
 use Rattle.replay_feed.specs.LongLines.{heldText, heldCut}
 use Rattle.replay_feed.specs.InputContracts.{Moves}
-use Rattle.replay_feed.specs.Turns.{isEmpty, fromNewline, Turned, linesWait, lineHeld, answered, passedOver, feedRule, scriptEnded, endedWith, endRule}
+use Rattle.replay_feed.specs.Turns.{isNothing, fromNewline, Turned, linesWait, lineHeld, answered, passedOver, feedRule, scriptEnded, endedWith, endRule}
 use Rattle.replay_feed.specs.TurnContracts.{heldOf, inputOf, pendingOf, turnedOf, Standing}
 
 no : {A : Type 0} → false ≡ true → A
 no e = absurd (subst T (sym e) tt)
 
-pub empty-size : (t : List ℕ) {n : ℕ} → length t ≡ n → isEmpty t ≡ eqb n 0
+pub empty-size : (t : List ℕ) {n : ℕ} → length t ≡ n → isNothing t ≡ eqb n 0
 empty-size [] {n} e = sym (eq-eqb n 0 (sym e))
 empty-size (c ∷ t) {n} e = sym (ne-eqb n 0 (λ z. omega (arith, e, z)))
 
@@ -196,7 +196,7 @@ module _ (s : State) (b : List ℕ) (count room : ℕ) (ordered : s .start ≤ s
   goes e k =
       k
       ∙ ap (λ (l : List ℕ). answered (length b) (shareRule (s .station) (s .number) l room)) (behind b (s .start) (s .size) count ordered fits)
-      ∙ ap (λ (t : Bool). fed t (isEmpty (fromNewline input))) (sym e)
+      ∙ ap (λ (t : Bool). fed t (isNothing (fromNewline input))) (sym e)
 
   module _ (is-cut : s .cut ≡ true) {at : ℕ} (found : at ≡ s .size + indexOf newline (slice (s .size) (s .size + count) b)) where
     at-is : at ≡ s .size + indexOf newline input
@@ -221,8 +221,8 @@ module _ (s : State) (b : List ℕ) (count room : ℕ) (ordered : s .start ≤ s
     pub passes : (out : List ℕ) → at ≡ s .size + count → turnedOf passing b out ≡ feedRule (length b) room (pendingOf s b) input
     unfolding feedRule
     passes out e =
-        ap (fed true) (sym (ap isEmpty (no-newline input (omega (arith, at-is, e, input-size)))))
-        ∙ ap (λ (t : Bool). fed t (isEmpty (fromNewline input))) (sym is-cut)
+        ap (fed true) (sym (ap isNothing (no-newline input (omega (arith, at-is, e, input-size)))))
+        ∙ ap (λ (t : Bool). fed t (isNothing (fromNewline input))) (sym is-cut)
 
     pub passing-stands : (out : List ℕ) → s .size < length b → Standing passing b out
     passing-stands out free =
@@ -241,12 +241,12 @@ module _ (s : State) (b : List ℕ) (count room : ℕ) (ordered : s .start ≤ s
         ∙ ap (λ (size : ℕ). answered size (shareRule (s .station) (s .number) (drop (s .start) (take n b₁)) room)) (sym same)
         ∙ ap (λ (l : List ℕ). answered (length b) (shareRule (s .station) (s .number) l room)) held-is
         ∙ ap (fed true) (sym some)
-        ∙ ap (λ (t : Bool). fed t (isEmpty (fromNewline input))) (sym is-cut)
+        ∙ ap (λ (t : Bool). fed t (isNothing (fromNewline input))) (sym is-cut)
       where
         index : indexOf newline input < length input
         index = omega (arith, at-is, bound, not-last, input-size)
 
-        some : isEmpty (fromNewline input) ≡ false
+        some : isNothing (fromNewline input) ≡ false
         some =
             empty-size (fromNewline input) (ap length (from-newline input index) ∙ length-drop (indexOf newline input) input)
             ∙ ne-eqb (length input - indexOf newline input) 0 (λ e. omega (arith, index, e))

@@ -12,7 +12,8 @@ use borrow.Author.Tests.{leb-true, ltb-false}
 use Rattle.station.specs.declared.Station.{Station}
 use Rattle.replay_line.specs.LineWords.{space}
 use Rattle.replay_line.specs.LineCalls.{lineRule}
-use Rattle.replay_script.specs.ReplayRuns.{newline, Unbroken, none, more, linesAfter, runLines, runRule}
+use Rattle.text.specs.Words.{newline}
+use Rattle.replay_script.specs.ReplayRuns.{Unbroken, none, more, linesAfter, runLines, runRule}
 use Rattle.replay_script.specs.ReplayRunLaws.{unbroken-append, run-read, same-answer, goes-on}
 use Rattle.replay_feed.specs.LongLines.{isSpare, squeezed, squeezedLine, longest, isCut, shortened, heldText, heldCut}
 use Rattle.replay_feed.specs.Turns.{fromNewline}

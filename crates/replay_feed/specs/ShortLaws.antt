@@ -10,7 +10,7 @@ use Rattle.report.specs.Sizes.{byte}
 use Rattle.replay_line.specs.LineWords.{space, wordsAfter, words}
 use borrow.Author.Tests.{ne-eqb}
 use Rattle.replay_line.specs.Commands.{blank}
-use Rattle.replay_line.specs.LineCalls.{callOf, withoutReturn, textRule, lineRule}
+use Rattle.replay_line.specs.LineCalls.{commandIn, withoutReturn, textRule, lineRule}
 use Rattle.replay_feed.specs.LongLines.{squeezed}
 
 -- the words are the same: after no space, whatever is read of a word; after a space, where nothing is
@@ -63,7 +63,7 @@ return-behind (c ∷ d ∷ front) last rest =
     ∙ ap (λ (l : List ℕ). c ∷ l) (return-behind (d ∷ front) last rest)
 
 -- the first byte and the words of a text that is not empty decide
-pub nonempty-text : (c : ℕ) (text : List ℕ) → textRule (c ∷ text) ≡ cond (eqb c 35) blank (callOf (words (c ∷ text)))
+pub nonempty-text : (c : ℕ) (text : List ℕ) → textRule (c ∷ text) ≡ cond (eqb c 35) blank (commandIn (words (c ∷ text)))
 unfolding textRule
 nonempty-text c text = simp (ne-eqb (length (c ∷ text)) 0 (λ e. omega arith))
 
@@ -85,7 +85,7 @@ same-text [] rest = ap (λ (l : List ℕ). textRule (l ++ rest)) nothing-squeeze
 same-text (c ∷ front) rest =
     ap (λ (l : List ℕ). textRule (l ++ rest)) (first-kept c front)
     ∙ nonempty-text c (squeezed (eqb c space) front ++ rest)
-    ∙ ap (λ (ws : List (List ℕ)). cond (eqb c 35) blank (callOf ws)) (sym (ap (λ (l : List ℕ). wordsAfter [] (l ++ rest)) (first-kept c front)) ∙ same-words (c ∷ front) rest .whole [])
+    ∙ ap (λ (ws : List (List ℕ)). cond (eqb c 35) blank (commandIn ws)) (sym (ap (λ (l : List ℕ). wordsAfter [] (l ++ rest)) (first-kept c front)) ∙ same-words (c ∷ front) rest .whole [])
     ∙ sym (nonempty-text c (front ++ rest))
 
 pub same-line : (front : List ℕ) (last : ℕ) (rest : List ℕ) → lineRule (squeezed false front ++ (last ∷ rest)) ≡ lineRule (front ++ (last ∷ rest))

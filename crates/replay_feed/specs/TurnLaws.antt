@@ -13,7 +13,7 @@ use Rattle.station.specs.Stations.{freshStation}
 use Rattle.replay_desk.specs.LineAnswers.{answerRoom}
 use Rattle.replay_feed.specs.declared.State.{State}
 use Rattle.replay_feed.specs.LongLines.{longest}
-use Rattle.replay_feed.specs.Turns.{isEmpty, Turned, feedRule, endRule, turnRule, refusedTurn}
+use Rattle.replay_feed.specs.Turns.{isNothing, Turned, feedRule, endRule, turnRule, refusedTurn}
 use Rattle.replay_feed.specs.TurnContracts.{inputOf, pendingOf, turnedOf, Starts, Standing, isReady, turnFor, refusedState, Leaves}
 use Rattle.replay_feed.specs.FeedLaws.{empty-size, input-size}
 
@@ -114,7 +114,7 @@ module _ (s : State) (count : ℕ) (b o : List ℕ) where
     abbrev ends : Bool
     ends = s .reading && eqb count 0
 
-    is-empty : (s .reading && isEmpty (inputOf s count b)) ≡ ends
+    is-empty : (s .reading && isNothing (inputOf s count b)) ≡ ends
     is-empty =
         ap (λ (t : Bool). s .reading && t) (empty-size (inputOf s count b) (input-size s b count (length o) (made .ordered) (made .fits)))
 

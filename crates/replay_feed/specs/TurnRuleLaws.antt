@@ -9,11 +9,12 @@ use lib.ListN.{length, length-append}
 use borrow.Author.Tests.{le-leb}
 use Rattle.station.specs.declared.Station.{Station}
 use Rattle.replay_desk.specs.LineAnswers.{answerRoom}
-use Rattle.replay_script.specs.ReplayRuns.{newline, Unbroken, none, more, nextNumber, answerTo, Ran, before, linesAfter, runLines, runRule}
+use Rattle.text.specs.Words.{newline}
+use Rattle.replay_script.specs.ReplayRuns.{Unbroken, none, more, nextNumber, answerTo, Ran, before, linesAfter, runLines, runRule}
 use Rattle.replay_script.specs.Shares.{Share, shareNone, beforeShare, shareAfter, shareRule}
 use Rattle.replay_script.specs.ReplayRunLaws.{run-read, share-runs, left-unbroken, left-shorter}
 use Rattle.replay_feed.specs.LongLines.{longest}
-use Rattle.replay_feed.specs.Turns.{isEmpty, fromNewline, Pending, Turned, atStart, joined, linesWait, lineHeld, answered, passedOver, feedRule, scriptEnded, endedWith, endRule, turnRule, toCome}
+use Rattle.replay_feed.specs.Turns.{isNothing, fromNewline, Pending, Turned, atStart, joined, linesWait, lineHeld, answered, passedOver, feedRule, scriptEnded, endedWith, endRule, turnRule, toCome}
 use Rattle.replay_feed.specs.HeldLaws.{held-unbroken, held-same}
 
 no : {A : Type 0} → false ≡ true → A
@@ -33,11 +34,11 @@ pub sound-start : Sound atStart
 sound-start = record { part = λ e. none; cut = no }
 
 -- the rest of a line that is cut, in two parts
-from-by : (c : ℕ) (t u : List ℕ) (nl e : Bool) → isEmpty (cond nl (c ∷ t) (fromNewline t)) ≡ e → (isEmpty (fromNewline t) ≡ e → fromNewline (t ++ u) ≡ cond e (fromNewline u) (fromNewline t ++ u)) → cond nl (c ∷ (t ++ u)) (fromNewline (t ++ u)) ≡ cond e (fromNewline u) (cond nl (c ∷ t) (fromNewline t) ++ u)
+from-by : (c : ℕ) (t u : List ℕ) (nl e : Bool) → isNothing (cond nl (c ∷ t) (fromNewline t)) ≡ e → (isNothing (fromNewline t) ≡ e → fromNewline (t ++ u) ≡ cond e (fromNewline u) (fromNewline t ++ u)) → cond nl (c ∷ (t ++ u)) (fromNewline (t ++ u)) ≡ cond e (fromNewline u) (cond nl (c ∷ t) (fromNewline t) ++ u)
 from-by c t u true e k next = ap (λ (b : Bool). cond b (fromNewline u) (c ∷ (t ++ u))) k
 from-by c t u false e k next = next k
 
-from-append : (t u : List ℕ) (e : Bool) → isEmpty (fromNewline t) ≡ e → fromNewline (t ++ u) ≡ cond e (fromNewline u) (fromNewline t ++ u)
+from-append : (t u : List ℕ) (e : Bool) → isNothing (fromNewline t) ≡ e → fromNewline (t ++ u) ≡ cond e (fromNewline u) (fromNewline t ++ u)
 unfolding fromNewline
 from-append [] u e k = ap (λ (b : Bool). cond b (fromNewline u) u) k
 from-append (c ∷ t) u e k = from-by c t u (eqb c newline) e k (from-append t u e)
@@ -99,7 +100,7 @@ module _ (size room : ℕ) (large : longest < size) (p : Pending) (input : List 
       cond (cut && goes-on) (passedOver p)
       (answered size (shareRule (p .station) (p .number) (p .held ++ cond cut (fromNewline input) input) room))
 
-  comes-by : (unread : List ℕ) (t e : Bool) → isEmpty (fromNewline input) ≡ e → runRule (p .station) (p .number) (p .held ++ cond t (fromNewline (input ++ unread)) (input ++ unread)) ≡ before (fed t e .text) (toCome (fed t e .after) unread)
+  comes-by : (unread : List ℕ) (t e : Bool) → isNothing (fromNewline input) ≡ e → runRule (p .station) (p .number) (p .held ++ cond t (fromNewline (input ++ unread)) (input ++ unread)) ≡ before (fed t e .text) (toCome (fed t e .after) unread)
   unfolding toCome
   comes-by unread true true k =
       ap (λ (l : List ℕ). runRule (p .station) (p .number) (p .held ++ l)) (from-append input unread true k)
@@ -113,7 +114,7 @@ module _ (size room : ℕ) (large : longest < size) (p : Pending) (input : List 
 
   pub feed-comes : (unread : List ℕ) → toCome p (input ++ unread) ≡ before (feedRule size room p input .text) (toCome (feedRule size room p input .after) unread)
   unfolding toCome feedRule
-  feed-comes unread = comes-by unread (p .cut) (isEmpty (fromNewline input)) refl
+  feed-comes unread = comes-by unread (p .cut) (isNothing (fromNewline input)) refl
 
   fed-sound : Sound p → (t e : Bool) → p .cut ≡ t → Sound (fed t e .after)
   fed-sound s true true k = record { part = λ f. s .part (s .cut k); cut = λ f. refl }
@@ -122,7 +123,7 @@ module _ (size room : ℕ) (large : longest < size) (p : Pending) (input : List 
 
   pub feed-sound : Sound p → Sound (feedRule size room p input .after)
   unfolding feedRule
-  feed-sound s = fed-sound s (p .cut) (isEmpty (fromNewline input)) refl
+  feed-sound s = fed-sound s (p .cut) (isNothing (fromNewline input)) refl
 
   fed-goes : (t e : Bool) → GoesOn (fed t e .after)
   fed-goes true true = record { going = refl; whole = refl }
@@ -131,7 +132,7 @@ module _ (size room : ℕ) (large : longest < size) (p : Pending) (input : List 
 
   pub feed-goes : GoesOn (feedRule size room p input .after)
   unfolding feedRule
-  feed-goes = fed-goes (p .cut) (isEmpty (fromNewline input))
+  feed-goes = fed-goes (p .cut) (isNothing (fromNewline input))
 
   fed-shorter : answerRoom ≤ room → (t e : Bool) → fed t e .after .reading ≡ false → length (fed t e .after .held) < length (p .held) + length input
   fed-shorter fits true true f = no (sym f)
@@ -142,7 +143,7 @@ module _ (size room : ℕ) (large : longest < size) (p : Pending) (input : List 
 
   pub feed-shorter : answerRoom ≤ room → feedRule size room p input .after .reading ≡ false → length (feedRule size room p input .after .held) < length (p .held) + length input
   unfolding feedRule
-  feed-shorter fits = fed-shorter fits (p .cut) (isEmpty (fromNewline input))
+  feed-shorter fits = fed-shorter fits (p .cut) (isNothing (fromNewline input))
 
 -- the end of a script: all that was to come is answered
 pub record Ended (p : Pending) (t : Turned) : Type 0 where
@@ -173,7 +174,7 @@ module _ (room : ℕ) (fits : answerRoom ≤ room) (p : Pending) where
 
   abbrev ending : List ℕ → Turned
   ending held =
-      cond (isEmpty held) (record { text = []; after = scriptEnded (p .station) (p .number) held })
+      cond (isNothing held) (record { text = []; after = scriptEnded (p .station) (p .number) held })
       (endedWith (shareRule (p .station) (p .number) (held ++ (newline ∷ [])) room))
 
   abbrev lastAnswer : List ℕ → Share

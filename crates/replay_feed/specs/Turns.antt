@@ -5,13 +5,14 @@ use mathlib.Core.List.{List, [], _∷_, _++_}
 use lib.Dec.{eqb}
 use Rattle.station.specs.declared.Station.{Station}
 use Rattle.station.specs.Stations.{freshStation}
-use Rattle.replay_script.specs.ReplayRuns.{newline, Ran, runRule}
+use Rattle.text.specs.Words.{newline}
+use Rattle.replay_script.specs.ReplayRuns.{Ran, runRule}
 use Rattle.replay_script.specs.Shares.{Share, shareRule}
 use Rattle.replay_feed.specs.LongLines.{heldText, heldCut}
 
-abbrev pub isEmpty : List ℕ → Bool
-isEmpty [] = true
-isEmpty (c ∷ text) = false
+abbrev pub isNothing : List ℕ → Bool
+isNothing [] = true
+isNothing (c ∷ text) = false
 
 -- a text from its first newline on
 unfoldable pub fromNewline : List ℕ → List ℕ
@@ -64,7 +65,7 @@ passedOver p =
 -- bytes were read, or lines wait: the sizes of the buffers for the input and for the answers
 unfoldable pub feedRule : (size room : ℕ) → Pending → (input : List ℕ) → Turned
 feedRule size room p input =
-    cond (p .cut && isEmpty (fromNewline input)) (passedOver p)
+    cond (p .cut && isNothing (fromNewline input)) (passedOver p)
     (answered size (shareRule (p .station) (p .number) (joined p input) room))
 
 -- the whole script is answered
@@ -79,13 +80,13 @@ endedWith s =
 -- nothing more is read: a last line that lacks its newline is answered
 unfoldable pub endRule : (room : ℕ) → Pending → Turned
 endRule room p =
-    cond (isEmpty (p .held)) (record { text = []; after = scriptEnded (p .station) (p .number) (p .held) })
+    cond (isNothing (p .held)) (record { text = []; after = scriptEnded (p .station) (p .number) (p .held) })
     (endedWith (shareRule (p .station) (p .number) (p .held ++ (newline ∷ [])) room))
 
 -- a read that brings nothing is the end of the script
 unfoldable pub turnRule : (size room : ℕ) → Pending → (input : List ℕ) → Turned
 turnRule size room p input =
-    cond (p .reading && isEmpty input) (endRule room p) (feedRule size room p input)
+    cond (p .reading && isNothing input) (endRule room p) (feedRule size room p input)
 
 -- nothing is done, and no other turn is to follow
 abbrev pub refusedTurn : Pending → Turned

@@ -3,13 +3,13 @@ use Prim.Native.Nat.{ℕ}
 use mathlib.Core.List.{List}
 
 -- the calls that write into a lent buffer
-pub data Writer : Type 0 where
-  request : (port byte2 byte3 ticks : ℕ) → Writer
-  switch : (bits timeout : ℕ) → Writer
-  getPaired : Writer
-  led : (port leds : ℕ) → Writer
-  list : Writer
-  frame : (port byte2 byte3 : ℕ) → Writer
+pub data LineWriter : Type 0 where
+  request : (port byte2 byte3 ticks : ℕ) → LineWriter
+  switch : (bits timeout : ℕ) → LineWriter
+  getPaired : LineWriter
+  led : (port leds : ℕ) → LineWriter
+  list : LineWriter
+  frame : (port byte2 byte3 : ℕ) → LineWriter
 
 -- a writer is lent a buffer of `room` bytes; a request and a frame have parameters
 pub data Command : Type 0 where
@@ -21,4 +21,4 @@ pub data Command : Type 0 where
   read : (bytes : List ℕ) → Command
   mouse : (payload : List ℕ) → Command
   dump : Command
-  write : Writer → (offset room : ℕ) (params : List ℕ) → Command
+  write : LineWriter → (offset room : ℕ) (params : List ℕ) → Command

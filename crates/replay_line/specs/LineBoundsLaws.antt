@@ -14,10 +14,10 @@ use Rattle.text.specs.Words.{ascii}
 use Rattle.replay_line.specs.LineWords.{words, sameWord}
 use Rattle.replay_line.specs.LineValues.{hexByte, allDigits, valueAfter, leadingZero, greatest, digitsAfter, number}
 use Rattle.replay_line.specs.LineValuesLaws.{grows}
-use Rattle.replay_line.specs.LineFields.{Read, nothing, got, valued, first, andThen, upTo, greatestPort, mostLent, roomNumber, portNumber, target, Lent, lent, before, bytesOf, mostBytes, limited}
-use Rattle.replay_line.specs.Commands.{Writer, Command, blank, noCall, take, tick, read, mouse, dump}
-use Rattle.replay_line.specs.LineCalls.{alone, given, withBytes, lentAlone, lentBytes, requestCall, cancelCall, switchCall, ledCall, frameCall, Row, otherRows, writerRows, table, called, callOf, withoutReturn, hash, textRule, lineRule}
-use Rattle.replay_line.specs.LineContracts.{roomOf}
+use Rattle.replay_line.specs.LineFields.{NextValue, nothing, got, valued, first, andThen, upTo, greatestPort, mostLent, roomNumber, portNumber, portAndBytes, Lent, lent, inFront, bytesOf, mostBytes, limited}
+use Rattle.replay_line.specs.Commands.{LineWriter, Command, blank, noCall, take, tick, read, mouse, dump}
+use Rattle.replay_line.specs.LineCalls.{withNoMore, given, withBytes, lentAlone, lentBytes, requestCall, cancelCall, switchCall, ledCall, frameCall, LineRow, otherRows, writerRows, table, commandNamed, commandIn, withoutReturn, hash, textRule, lineRule}
+use Rattle.replay_line.specs.LineContracts.{lentRoom}
 
 -- words with one space after each
 unfoldable pub sizeOf : List (List ℕ) → ℕ
@@ -101,7 +101,7 @@ up-to-fits limit word none h = tt
 up-to-fits limit word (some n) h = up-to-by limit word n (leb n limit) refl (h .0)
 
 -- what is read takes at most `most` of the words
-abbrev Takes : {A : Type 0} → (A → Type 0) → ℕ → List (List ℕ) → Read A → Type 0
+abbrev Takes : {A : Type 0} → (A → Type 0) → ℕ → List (List ℕ) → NextValue A → Type 0
 Takes P most words nothing = Unit {0}
 Takes P most words (got value following) = (sizeOf words ≤ most + sizeOf following) × P value
 
@@ -132,21 +132,21 @@ up-to-takes limit words =
     first-takes (λ (m : ℕ). m ≤ limit) numberLength (λ (word : List ℕ). upTo limit (number word)) (λ word. up-to-fits limit word (number word) (number-fits word)) words
 
 module _ {A B : Type 0} (P : A → Type 0) (Q : B → Type 0) where
-  then-takes : (m n : ℕ) (words : List (List ℕ)) (r : Read A) (next : A → List (List ℕ) → Read B) → Takes P m words r → ((value : A) → P value → (following : List (List ℕ)) → Takes Q n following (next value following)) → Takes Q (m + n) words (andThen r nothing next)
+  then-takes : (m n : ℕ) (words : List (List ℕ)) (r : NextValue A) (next : A → List (List ℕ) → NextValue B) → Takes P m words r → ((value : A) → P value → (following : List (List ℕ)) → Takes Q n following (next value following)) → Takes Q (m + n) words (andThen r nothing next)
   then-takes m n words nothing next p q = tt
   then-takes m n words (got value following) next p q = by (next value following) (q value (p .1) following)
     where
-      by : (s : Read B) → Takes Q n following s → Takes Q (m + n) words s
+      by : (s : NextValue B) → Takes Q n following s → Takes Q (m + n) words s
       by nothing h = tt
       by (got x left) h = (omega (arith, p .0, h .0), h .1)
 
 -- PORT B2 B3
-abbrev targetMost : ℕ
-targetMost = numberMost + (byteMost + byteMost)
+abbrev portAndBytesMost : ℕ
+portAndBytesMost = numberMost + (byteMost + byteMost)
 
-target-takes : (words : List (List ℕ)) → Takes Any targetMost words (target words)
-unfolding target
-target-takes words =
+port-and-bytes-takes : (words : List (List ℕ)) → Takes Any portAndBytesMost words (portAndBytes words)
+unfolding portAndBytes
+port-and-bytes-takes words =
     then-takes (λ (m : ℕ). m ≤ greatestPort) Any numberMost (byteMost + byteMost) words (first portNumber words) _ (up-to-takes greatestPort words) λ port h words.
     then-takes Any Any byteMost byteMost words (first hexByte words) _ (byte-takes words) λ byte2 h words.
     then-takes Any Any byteMost 0 words (first hexByte words) _ (byte-takes words) λ byte3 h words. (omega arith, tt)
@@ -167,14 +167,14 @@ lent-takes words =
 -- a command of these words is no call; or they are few, and it is lent no more than the longest buffer
 data Bounded (most : ℕ) (words : List (List ℕ)) (command : Command) : Type 0 where
   none-called : command ≡ noCall → Bounded most words command
-  a-call : sizeOf words ≤ most → roomOf command ≤ mostLent → Bounded most words command
+  a-call : sizeOf words ≤ most → lentRoom command ≤ mostLent → Bounded most words command
 
 at-most : (n : ℕ) {m : ℕ} {words : List (List ℕ)} {command : Command} → m ≤ n → Bounded m words command → Bounded n words command
 at-most n h (none-called e) = none-called e
 at-most n h (a-call s r) = a-call (omega (arith, s, h)) r
 
 module _ {A : Type 0} (P : A → Type 0) where
-  then-bounded : (m n : ℕ) (words : List (List ℕ)) (r : Read A) (next : A → List (List ℕ) → Command) → Takes P m words r → ((value : A) → P value → (following : List (List ℕ)) → Bounded n following (next value following)) → Bounded (m + n) words (andThen r noCall next)
+  then-bounded : (m n : ℕ) (words : List (List ℕ)) (r : NextValue A) (next : A → List (List ℕ) → Command) → Takes P m words r → ((value : A) → P value → (following : List (List ℕ)) → Bounded n following (next value following)) → Bounded (m + n) words (andThen r noCall next)
   then-bounded m n words nothing next p q = none-called refl
   then-bounded m n words (got value following) next p q = by (q value (p .1) following)
     where
@@ -182,17 +182,17 @@ module _ {A : Type 0} (P : A → Type 0) where
       by (none-called e) = none-called e
       by (a-call s r) = a-call (omega (arith, p .0, s)) r
 
-alone-bounded : (command : Command) (words : List (List ℕ)) → roomOf command ≤ mostLent → Bounded 0 words (alone command words)
+no-more-bounded : (command : Command) (words : List (List ℕ)) → lentRoom command ≤ mostLent → Bounded 0 words (withNoMore command words)
 unfolding sizeOf
-alone-bounded command [] r = a-call (omega arith) r
-alone-bounded command (word ∷ words) r = none-called refl
+no-more-bounded command [] r = a-call (omega arith) r
+no-more-bounded command (word ∷ words) r = none-called refl
 
 -- every word that is left is a byte
 abbrev Bytes : List (List ℕ) → Option (List ℕ) → Type 0
 Bytes words none = Unit {0}
 Bytes words (some bytes) = sizeOf words ≤ byteMost * length bytes
 
-before-bytes : (word : List ℕ) (following : List (List ℕ)) (o : Option ℕ) (os : Option (List ℕ)) → Fits Any byteLength word o → Bytes following os → Bytes (word ∷ following) (before o os)
+before-bytes : (word : List ℕ) (following : List (List ℕ)) (o : Option ℕ) (os : Option (List ℕ)) → Fits Any byteLength word o → Bytes following os → Bytes (word ∷ following) (inFront o os)
 unfolding sizeOf
 before-bytes word following none os h b = tt
 before-bytes word following (some value) none h b = tt
@@ -206,7 +206,7 @@ all-bytes (word ∷ following) = before-bytes word following (hexByte word) (byt
 abbrev bytesMost : ℕ
 bytesMost = byteMost * mostBytes
 
-module _ (command : List ℕ → Command) (lends : (bytes : List ℕ) → roomOf (command bytes) ≤ mostLent) (words : List (List ℕ)) where
+module _ (command : List ℕ → Command) (lends : (bytes : List ℕ) → lentRoom (command bytes) ≤ mostLent) (words : List (List ℕ)) where
   limited-by : (bytes : List ℕ) (t : Bool) → leb (length bytes) mostBytes ≡ t → sizeOf words ≤ byteMost * length bytes → Bounded bytesMost words (given (cond t (some bytes) none) command)
   limited-by bytes true e h = a-call (omega (arith, h, leb-true (length bytes) mostBytes e)) (lends bytes)
   limited-by bytes false e h = none-called refl
@@ -219,28 +219,28 @@ module _ (command : List ℕ → Command) (lends : (bytes : List ℕ) → roomOf
   unfolding withBytes
   bytes-bounded = given-bounded (bytesOf words) (all-bytes words)
 
-lent-alone : (writer : Writer) (words : List (List ℕ)) → Bounded lentMost words (lentAlone writer words)
+lent-alone : (writer : LineWriter) (words : List (List ℕ)) → Bounded lentMost words (lentAlone writer words)
 lent-alone writer words =
-    then-bounded Within lentMost 0 words (lent words) _ (lent-takes words) λ at h words. alone-bounded _ words h
+    then-bounded Within lentMost 0 words (lent words) _ (lent-takes words) λ at h words. no-more-bounded _ words h
 
-lent-bytes : (writer : Writer) (words : List (List ℕ)) → Bounded (lentMost + bytesMost) words (lentBytes writer words)
+lent-bytes : (writer : LineWriter) (words : List (List ℕ)) → Bounded (lentMost + bytesMost) words (lentBytes writer words)
 lent-bytes writer words =
     then-bounded Within lentMost bytesMost words (lent words) _ (lent-takes words) λ at h words. bytes-bounded _ (λ bytes. h) words
 
--- the longest call is a request with all parameters: three values of its target, its ticks, and its lent buffer
+-- the longest call is a request with all parameters: its port and bytes 2 and 3, its ticks, and its lent buffer
 abbrev valuesMost : ℕ
-valuesMost = targetMost + (numberMost + (lentMost + bytesMost))
+valuesMost = portAndBytesMost + (numberMost + (lentMost + bytesMost))
 
 request-bounded : (words : List (List ℕ)) → Bounded valuesMost words (requestCall words)
 unfolding requestCall
 request-bounded words =
-    then-bounded Any targetMost _ words (target words) _ (target-takes words) λ to h words.
+    then-bounded Any portAndBytesMost _ words (portAndBytes words) _ (port-and-bytes-takes words) λ to h words.
     then-bounded Any numberMost _ words (first number words) _ (number-takes words) λ ticks h words. lent-bytes _ words
 
 cancel-bounded : (words : List (List ℕ)) → Bounded valuesMost words (cancelCall words)
 unfolding cancelCall
 cancel-bounded words =
-    at-most valuesMost (lit≤ tt) (then-bounded Any targetMost 0 words (target words) _ (target-takes words) λ to h words. alone-bounded _ words (lit≤ tt))
+    at-most valuesMost (lit≤ tt) (then-bounded Any portAndBytesMost 0 words (portAndBytes words) _ (port-and-bytes-takes words) λ to h words. no-more-bounded _ words (lit≤ tt))
 
 switch-bounded : (words : List (List ℕ)) → Bounded valuesMost words (switchCall words)
 unfolding switchCall
@@ -259,7 +259,7 @@ led-bounded words =
 frame-bounded : (words : List (List ℕ)) → Bounded valuesMost words (frameCall words)
 unfolding frameCall
 frame-bounded words =
-    at-most valuesMost (lit≤ tt) (then-bounded Any targetMost (lentMost + bytesMost) words (target words) _ (target-takes words) λ to h words. lent-bytes _ words)
+    at-most valuesMost (lit≤ tt) (then-bounded Any portAndBytesMost (lentMost + bytesMost) words (portAndBytes words) _ (port-and-bytes-takes words) λ to h words. lent-bytes _ words)
 
 -- no name is longer
 abbrev nameMost : ℕ
@@ -272,27 +272,27 @@ same-length [] (y ∷ name) e = absurd (subst T (sym e) tt)
 same-length (x ∷ word) [] e = absurd (subst T (sym e) tt)
 same-length (x ∷ word) (y ∷ name) e = ap suc (same-length word name (both (eqb x y) (sameWord word name) e .1))
 
-data AllBounded : List Row → Type 0 where
+data AllBounded : List LineRow → Type 0 where
   no-row : AllBounded []
-  a-row : {r : Row} {rows : List Row} → length (r .name) ≤ nameMost → ((words : List (List ℕ)) → Bounded valuesMost words (r .call words)) → AllBounded rows → AllBounded (r ∷ rows)
+  a-row : {r : LineRow} {rows : List LineRow} → length (r .name) ≤ nameMost → ((words : List (List ℕ)) → Bounded valuesMost words (r .call words)) → AllBounded rows → AllBounded (r ∷ rows)
 
 -- no call is longer, with a space after its name
 abbrev pub callMost : ℕ
 callMost = suc nameMost + valuesMost
 
-named-bounded : (name : List ℕ) (words : List (List ℕ)) (r : Row) (other : Command) (t : Bool) → sameWord name (r .name) ≡ t → length (r .name) ≤ nameMost → Bounded valuesMost words (r .call words) → Bounded callMost (name ∷ words) other → Bounded callMost (name ∷ words) (cond t (r .call words) other)
+named-bounded : (name : List ℕ) (words : List (List ℕ)) (r : LineRow) (other : Command) (t : Bool) → sameWord name (r .name) ≡ t → length (r .name) ≤ nameMost → Bounded valuesMost words (r .call words) → Bounded callMost (name ∷ words) other → Bounded callMost (name ∷ words) (cond t (r .call words) other)
 unfolding sizeOf
 named-bounded name words r other true e n (none-called h) o = none-called h
 named-bounded name words r other true e n (a-call s h) o =
     a-call (omega (arith, same-length name (r .name) e, n, s)) h
 named-bounded name words r other false e n h o = o
 
-rows-bounded : {rows : List Row} → AllBounded rows → (name : List ℕ) (words : List (List ℕ)) → Bounded callMost (name ∷ words) (called rows name words)
+rows-bounded : {rows : List LineRow} → AllBounded rows → (name : List ℕ) (words : List (List ℕ)) → Bounded callMost (name ∷ words) (commandNamed rows name words)
 rows-bounded no-row name words = none-called refl
 rows-bounded (a-row {r} {rows} n h others) name words =
-    named-bounded name words r (called rows name words) (sameWord name (r .name)) refl n (h words) (rows-bounded others name words)
+    named-bounded name words r (commandNamed rows name words) (sameWord name (r .name)) refl n (h words) (rows-bounded others name words)
 
-with-bytes : (command : List ℕ → Command) → ((bytes : List ℕ) → roomOf (command bytes) ≤ mostLent) → (words : List (List ℕ)) → Bounded valuesMost words (withBytes command words)
+with-bytes : (command : List ℕ → Command) → ((bytes : List ℕ) → lentRoom (command bytes) ≤ mostLent) → (words : List (List ℕ)) → Bounded valuesMost words (withBytes command words)
 with-bytes command lends words = at-most valuesMost (lit≤ tt) (bytes-bounded command lends words)
 
 others-bounded : AllBounded otherRows
@@ -301,7 +301,7 @@ others-bounded =
     a-row (lit≤ tt) (with-bytes read (λ bytes. lit≤ tt))
     (a-row (lit≤ tt) frame-bounded
     (a-row (lit≤ tt) (with-bytes mouse (λ bytes. lit≤ tt))
-    (a-row (lit≤ tt) (λ words. at-most valuesMost (lit≤ tt) (alone-bounded dump words (lit≤ tt))) no-row)))
+    (a-row (lit≤ tt) (λ words. at-most valuesMost (lit≤ tt) (no-more-bounded dump words (lit≤ tt))) no-row)))
 
 writers-bounded : AllBounded writerRows
 unfolding writerRows
@@ -316,33 +316,33 @@ table-bounded =
     a-row (lit≤ tt) (with-bytes take (λ bytes. lit≤ tt))
     (a-row (lit≤ tt) request-bounded
     (a-row (lit≤ tt) cancel-bounded
-    (a-row (lit≤ tt) (λ words. at-most valuesMost (lit≤ tt) (alone-bounded tick words (lit≤ tt))) writers-bounded)))
+    (a-row (lit≤ tt) (λ words. at-most valuesMost (lit≤ tt) (no-more-bounded tick words (lit≤ tt))) writers-bounded)))
 
-call-bounded : (words : List (List ℕ)) → Bounded callMost words (callOf words)
+call-bounded : (words : List (List ℕ)) → Bounded callMost words (commandIn words)
 call-bounded [] = none-called refl
 call-bounded (name ∷ words) = rows-bounded table-bounded name words
 
-pub long-is-none : (words : List (List ℕ)) → callMost < sizeOf words → callOf words ≡ noCall
+pub long-is-none : (words : List (List ℕ)) → callMost < sizeOf words → commandIn words ≡ noCall
 long-is-none words h = by (call-bounded words)
   where
-    by : Bounded callMost words (callOf words) → callOf words ≡ noCall
+    by : Bounded callMost words (commandIn words) → commandIn words ≡ noCall
     by (none-called e) = e
     by (a-call s r) = absurd (omega (arith, s, h))
 
-lends : {most : ℕ} {words : List (List ℕ)} {command : Command} → Bounded most words command → roomOf command ≤ mostLent
-lends (none-called e) = subst (λ (k : Command). roomOf k ≤ mostLent) (sym e) (lit≤ tt)
+lends : {most : ℕ} {words : List (List ℕ)} {command : Command} → Bounded most words command → lentRoom command ≤ mostLent
+lends (none-called e) = subst (λ (k : Command). lentRoom k ≤ mostLent) (sym e) (lit≤ tt)
 lends (a-call s r) = r
 
-either : (t : Bool) (a b : Command) → roomOf a ≤ mostLent → roomOf b ≤ mostLent → roomOf (cond t a b) ≤ mostLent
+either : (t : Bool) (a b : Command) → lentRoom a ≤ mostLent → lentRoom b ≤ mostLent → lentRoom (cond t a b) ≤ mostLent
 either true a b p q = p
 either false a b p q = q
 
-text-lends : (text : List ℕ) → roomOf (textRule text) ≤ mostLent
+text-lends : (text : List ℕ) → lentRoom (textRule text) ≤ mostLent
 unfolding textRule
 text-lends text =
     either (eqb (length text) 0) blank _ (lit≤ tt)
-    (either (eqb (byte text 0) hash) blank (callOf (words text)) (lit≤ tt) (lends (call-bounded (words text))))
+    (either (eqb (byte text 0) hash) blank (commandIn (words text)) (lit≤ tt) (lends (call-bounded (words text))))
 
-pub line-lends : (line : List ℕ) → roomOf (lineRule line) ≤ mostLent
+pub line-lends : (line : List ℕ) → lentRoom (lineRule line) ≤ mostLent
 unfolding lineRule
 line-lends line = text-lends (withoutReturn line)

@@ -10,12 +10,12 @@ use Rattle.report.specs.Sizes.{byte}
 use Rattle.text.specs.Words.{ascii}
 use Rattle.replay_line.specs.LineWords.{words, sameWord, noWord}
 use Rattle.replay_line.specs.LineValues.{hexByte, number}
-use Rattle.replay_line.specs.LineFields.{first, andThen, portNumber, target, lent, bytesOf, limited}
-use Rattle.replay_line.specs.Commands.{Writer, request, switch, getPaired, led, list, frame, Command, blank, noCall, take, cancel, tick, read, mouse, dump, write}
+use Rattle.replay_line.specs.LineFields.{first, andThen, portNumber, portAndBytes, lent, bytesOf, limited}
+use Rattle.replay_line.specs.Commands.{LineWriter, request, switch, getPaired, led, list, frame, Command, blank, noCall, take, cancel, tick, read, mouse, dump, write}
 
 -- no word more
-abbrev pub alone : Command → List (List ℕ) → Command
-alone command words = cond (noWord words) command noCall
+abbrev pub withNoMore : Command → List (List ℕ) → Command
+withNoMore command words = cond (noWord words) command noCall
 
 -- the words that are left are bytes
 abbrev pub given : Option (List ℕ) → (List ℕ → Command) → Command
@@ -26,27 +26,27 @@ unfoldable pub withBytes : (List ℕ → Command) → List (List ℕ) → Comman
 withBytes command words = given (limited (bytesOf words)) command
 
 -- PLACE LEN, and no word more
-abbrev pub lentAlone : Writer → List (List ℕ) → Command
+abbrev pub lentAlone : LineWriter → List (List ℕ) → Command
 lentAlone writer words =
     andThen (lent words) noCall λ at words.
-    alone (write writer (at .offset) (at .room) []) words
+    withNoMore (write writer (at .offset) (at .room) []) words
 
 -- PLACE LEN HH..
-abbrev pub lentBytes : Writer → List (List ℕ) → Command
+abbrev pub lentBytes : LineWriter → List (List ℕ) → Command
 lentBytes writer words =
     andThen (lent words) noCall λ at words.
     withBytes (write writer (at .offset) (at .room)) words
 
 unfoldable pub requestCall : List (List ℕ) → Command
 requestCall words =
-    andThen (target words) noCall λ to words.
+    andThen (portAndBytes words) noCall λ to words.
     andThen (first number words) noCall λ ticks words.
     lentBytes (request (to .port) (to .byte2) (to .byte3) ticks) words
 
 unfoldable pub cancelCall : List (List ℕ) → Command
 cancelCall words =
-    andThen (target words) noCall λ to words.
-    alone (cancel (to .port) (to .byte2) (to .byte3)) words
+    andThen (portAndBytes words) noCall λ to words.
+    withNoMore (cancel (to .port) (to .byte2) (to .byte3)) words
 
 unfoldable pub switchCall : List (List ℕ) → Command
 switchCall words =
@@ -62,52 +62,52 @@ ledCall words =
 
 unfoldable pub frameCall : List (List ℕ) → Command
 frameCall words =
-    andThen (target words) noCall λ to words.
+    andThen (portAndBytes words) noCall λ to words.
     lentBytes (frame (to .port) (to .byte2) (to .byte3)) words
 
 -- a row of the table: a call's first word, and what the words after it come to
-pub record Row : Type 0 where
+pub record LineRow : Type 0 where
   pub name : List ℕ
   pub call : List (List ℕ) → Command
 
-abbrev pub row : strings.String → (List (List ℕ) → Command) → Row
-row name call = record { name = ascii name; call = call }
+abbrev pub lineRow : strings.String → (List (List ℕ) → Command) → LineRow
+lineRow name call = record { name = ascii name; call = call }
 
 -- what needs no station, and the dump
-unfoldable pub otherRows : List Row
+unfoldable pub otherRows : List LineRow
 otherRows =
-    row "read" (withBytes read)
-    ∷ row "frame" frameCall
-    ∷ row "mouse" (withBytes mouse)
-    ∷ row "dump" (alone dump)
+    lineRow "read" (withBytes read)
+    ∷ lineRow "frame" frameCall
+    ∷ lineRow "mouse" (withBytes mouse)
+    ∷ lineRow "dump" (withNoMore dump)
     ∷ []
 
 -- what writes into a lent buffer, except a request
-unfoldable pub writerRows : List Row
+unfoldable pub writerRows : List LineRow
 writerRows =
-    row "switch" switchCall
-    ∷ row "get-paired" (lentAlone getPaired)
-    ∷ row "led" ledCall
-    ∷ row "list" (lentAlone list)
+    lineRow "switch" switchCall
+    ∷ lineRow "get-paired" (lentAlone getPaired)
+    ∷ lineRow "led" ledCall
+    ∷ lineRow "list" (lentAlone list)
     ∷ otherRows
 
-abbrev pub table : List Row
+abbrev pub table : List LineRow
 table =
-    row "take" (withBytes take)
-    ∷ row "request" requestCall
-    ∷ row "cancel" cancelCall
-    ∷ row "tick" (alone tick)
+    lineRow "take" (withBytes take)
+    ∷ lineRow "request" requestCall
+    ∷ lineRow "cancel" cancelCall
+    ∷ lineRow "tick" (withNoMore tick)
     ∷ writerRows
 
 -- the row of a name; no call where there is none
-abbrev pub called : List Row → List ℕ → List (List ℕ) → Command
-called [] name words = noCall
-called (r ∷ rows) name words = cond (sameWord name (r .name)) (r .call words) (called rows name words)
+abbrev pub commandNamed : List LineRow → List ℕ → List (List ℕ) → Command
+commandNamed [] name words = noCall
+commandNamed (r ∷ rows) name words = cond (sameWord name (r .name)) (r .call words) (commandNamed rows name words)
 
 -- the words of a line: the first is the name
-abbrev pub callOf : List (List ℕ) → Command
-callOf [] = noCall
-callOf (name ∷ words) = called table name words
+abbrev pub commandIn : List (List ℕ) → Command
+commandIn [] = noCall
+commandIn (name ∷ words) = commandNamed table name words
 
 abbrev pub carriageReturn : ℕ
 carriageReturn = 13
@@ -125,7 +125,7 @@ hash = 35
 unfoldable pub textRule : List ℕ → Command
 textRule text =
     cond (eqb (lists.length text) 0) blank
-    (cond (eqb (byte text 0) hash) blank (callOf (words text)))
+    (cond (eqb (byte text 0) hash) blank (commandIn (words text)))
 
 unfoldable pub lineRule : List ℕ → Command
 lineRule line = textRule (withoutReturn line)

@@ -7,7 +7,7 @@ use lib.ListN.{length, drop}
 use Rattle.replay_line.specs.declared.Parsed.{Parsed}
 use Rattle.replay_line.specs.LineWords.{words, sameWord}
 use Rattle.replay_line.specs.Commands.{Command}
-use Rattle.replay_line.specs.LineCalls.{otherRows, writerRows, table, called, callOf, withoutReturn}
+use Rattle.replay_line.specs.LineCalls.{otherRows, writerRows, table, commandNamed, commandIn, withoutReturn}
 use Rattle.replay_line.specs.LineContracts.{part, wordFrom, NextWord, Parses}
 
 -- the same command said in another way
@@ -21,10 +21,10 @@ nothing-kept [] h = refl
 nothing-kept (c ∷ line) h = absurd (omega arith)
 
 -- a text without a word has no name of the table
-by-name : (name : List ℕ) (following : List (List ℕ)) → callOf (wordFrom name following) ≡ called table name following
+by-name : (name : List ℕ) (following : List (List ℕ)) → commandIn (wordFrom name following) ≡ commandNamed table name following
 unfolding sameWord otherRows writerRows
 by-name [] following = refl
 by-name (c ∷ name) following = refl
 
-pub named : {text : List ℕ} {start end : ℕ} → NextWord text 0 start end → callOf (words text) ≡ called table (part start end text) (words (drop end text))
-named {text} {start} {end} w = ap callOf (w .so) ∙ by-name (part start end text) (words (drop end text))
+pub named : {text : List ℕ} {start end : ℕ} → NextWord text 0 start end → commandIn (words text) ≡ commandNamed table (part start end text) (words (drop end text))
+named {text} {start} {end} w = ap commandIn (w .so) ∙ by-name (part start end text) (words (drop end text))

@@ -15,8 +15,8 @@ use Rattle.replay_line.specs.declared.fields.NextByte.{NextByte}
 use Rattle.replay_line.specs.declared.fields.NextByte.the-variants as bytes
 use Rattle.replay_line.specs.declared.fields.NextNumber.{NextNumber}
 use Rattle.replay_line.specs.declared.fields.NextNumber.the-variants as numbers
-use Rattle.replay_line.specs.declared.fields.NextTarget.{NextTarget}
-use Rattle.replay_line.specs.declared.fields.NextTarget.the-variants as targets
+use Rattle.replay_line.specs.declared.fields.NextPortAndBytes.{NextPortAndBytes}
+use Rattle.replay_line.specs.declared.fields.NextPortAndBytes.the-variants as ports-and-bytes
 use Rattle.replay_line.specs.declared.fields.NextLent.{NextLent}
 use Rattle.replay_line.specs.declared.fields.NextLent.the-variants as lents
 use Rattle.replay_line.specs.declared.fields.ByteList.{ByteList}
@@ -73,33 +73,33 @@ decimalValue (decimals.Number value) = some value
 decimalValue decimals.Nothing = none
 
 -- an offset in the line stands for the words from there on
-abbrev pub byteRead : lists.List ℕ → NextByte → fields.Read ℕ
+abbrev pub byteRead : lists.List ℕ → NextByte → fields.NextValue ℕ
 byteRead line (bytes.Byte value next) = fields.got value (words (drop next line))
 byteRead line bytes.Nothing = fields.nothing
 
-abbrev pub numberRead : lists.List ℕ → NextNumber → fields.Read ℕ
+abbrev pub numberRead : lists.List ℕ → NextNumber → fields.NextValue ℕ
 numberRead line (numbers.Number value next) = fields.got value (words (drop next line))
 numberRead line numbers.Nothing = fields.nothing
 
-abbrev pub targetRead : lists.List ℕ → NextTarget → fields.Read fields.Target
-targetRead line (targets.Target port byte2 byte3 next) =
+abbrev pub portAndBytesRead : lists.List ℕ → NextPortAndBytes → fields.NextValue fields.PortAndBytes
+portAndBytesRead line (ports-and-bytes.PortAndBytes port byte2 byte3 next) =
     fields.got (record { port = port .0; byte2 = byte2 .0; byte3 = byte3 }) (words (drop next line))
-targetRead line targets.Nothing = fields.nothing
+portAndBytesRead line ports-and-bytes.Nothing = fields.nothing
 
-abbrev pub lentRead : lists.List ℕ → NextLent → fields.Read fields.Lent
+abbrev pub lentRead : lists.List ℕ → NextLent → fields.NextValue fields.Lent
 lentRead line (lents.Lent offset room next) =
     fields.got (record { offset = offset; room = room }) (words (drop next line))
 lentRead line lents.Nothing = fields.nothing
 
-abbrev pub listed : ByteList → Option (lists.List ℕ)
-listed b = cond (b .whole) (some (take (b .count) (b .bytes))) none
+abbrev pub bytesListed : ByteList → Option (lists.List ℕ)
+bytesListed b = cond (b .whole) (some (take (b .count) (b .bytes))) none
 
 -- a list of bytes that stands for this, and lies within its array
 pub record Lists (rule : Option (lists.List ℕ)) (b : ByteList) : Type 0 where
-  pub so : listed b ≡ rule
+  pub so : bytesListed b ≡ rule
   pub within : b .count ≤ length (b .bytes)
 
-abbrev pub writerOf : program-writer.Writer → rules.Writer
+abbrev pub writerOf : program-writer.Writer → rules.LineWriter
 writerOf (Request port byte2 byte3 ticks) = rules.request (port .0) (byte2 .0) byte3 ticks
 writerOf (Switch bits timeout) = rules.switch bits timeout
 writerOf GetPaired = rules.getPaired
@@ -128,13 +128,13 @@ pub record Parses (command : rules.Command) (p : Parsed) : Type 0 where
   pub within : p .count ≤ length (p .bytes)
 
 -- the length of the lent buffer; 0 where none is lent
-abbrev pub roomOf : rules.Command → ℕ
-roomOf rules.blank = 0
-roomOf rules.noCall = 0
-roomOf (rules.take bytes) = 0
-roomOf (rules.cancel port byte2 byte3) = 0
-roomOf rules.tick = 0
-roomOf (rules.read bytes) = 0
-roomOf (rules.mouse payload) = 0
-roomOf rules.dump = 0
-roomOf (rules.write writer offset room params) = room
+abbrev pub lentRoom : rules.Command → ℕ
+lentRoom rules.blank = 0
+lentRoom rules.noCall = 0
+lentRoom (rules.take bytes) = 0
+lentRoom (rules.cancel port byte2 byte3) = 0
+lentRoom rules.tick = 0
+lentRoom (rules.read bytes) = 0
+lentRoom (rules.mouse payload) = 0
+lentRoom rules.dump = 0
+lentRoom (rules.write writer offset room params) = room

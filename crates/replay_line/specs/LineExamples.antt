@@ -5,7 +5,7 @@ use mathlib.Core.List.{List, [], _∷_, _++_, map}
 use Rattle.text.specs.Words.{ascii}
 use Rattle.replay_line.specs.LineWords.{words, wordsAfter, sameWord}
 use Rattle.replay_line.specs.LineValues.{hexByte, hexDigit, number, digitsAfter, allDigits, valueAfter}
-use Rattle.replay_line.specs.LineFields.{target, lent, bytesOf}
+use Rattle.replay_line.specs.LineFields.{portAndBytes, lent, bytesOf}
 use Rattle.replay_line.specs.Commands.{Command, blank, noCall, take, request, cancel, tick, switch, getPaired, led, list, read, frame, mouse, dump, write}
 use Rattle.replay_line.specs.LineCalls.{carriageReturn, lineRule, textRule, withoutReturn, withBytes, requestCall, cancelCall, switchCall, ledCall, frameCall, otherRows, writerRows}
 
@@ -58,5 +58,5 @@ examples =
     ∷ []
 
 all-read : map (λ (e : Example). lineRule (e .line)) examples ≡ map (λ (e : Example). e .command) examples
-unfolding lineRule textRule withoutReturn words wordsAfter sameWord hexByte hexDigit number digitsAfter allDigits valueAfter target lent bytesOf withBytes requestCall cancelCall switchCall ledCall frameCall otherRows writerRows
+unfolding lineRule textRule withoutReturn words wordsAfter sameWord hexByte hexDigit number digitsAfter allDigits valueAfter portAndBytes lent bytesOf withBytes requestCall cancelCall switchCall ledCall frameCall otherRows writerRows
 all-read = refl

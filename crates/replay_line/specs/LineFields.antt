@@ -8,23 +8,23 @@ use lib.Dec.{leb}
 use Rattle.replay_line.specs.LineValues.{hexByte, number}
 
 -- what is read at the front of the words, and the words after it; or nothing, where a word is missing or stands for no such value
-pub data Read (A : Type 0) : Type 0 where
-  nothing : Read A
-  got : A → List (List ℕ) → Read A
+pub data NextValue (A : Type 0) : Type 0 where
+  nothing : NextValue A
+  got : A → List (List ℕ) → NextValue A
 
 module _ {A : Type 0} where
-  abbrev pub valued : Option A → List (List ℕ) → Read A
+  abbrev pub valued : Option A → List (List ℕ) → NextValue A
   valued none following = nothing
   valued (some value) following = got value following
 
   -- the first word, as a value
-  abbrev pub first : (List ℕ → Option A) → List (List ℕ) → Read A
+  abbrev pub first : (List ℕ → Option A) → List (List ℕ) → NextValue A
   first value [] = nothing
   first value (word ∷ following) = valued (value word) following
 
 module _ {A B : Type 0} where
   -- then, with what was read and the words after it; otherwise the first
-  abbrev pub andThen : Read A → B → (A → List (List ℕ) → B) → B
+  abbrev pub andThen : NextValue A → B → (A → List (List ℕ) → B) → B
   andThen nothing otherwise next = otherwise
   andThen (got value following) otherwise next = next value following
 
@@ -49,13 +49,13 @@ abbrev pub roomNumber : List ℕ → Option ℕ
 roomNumber word = upTo mostLent (number word)
 
 -- PORT B2 B3
-pub record Target : Type 0 where
+pub record PortAndBytes : Type 0 where
   pub port : ℕ
   pub byte2 : ℕ
   pub byte3 : ℕ
 
-unfoldable pub target : List (List ℕ) → Read Target
-target words =
+unfoldable pub portAndBytes : List (List ℕ) → NextValue PortAndBytes
+portAndBytes words =
     andThen (first portNumber words) nothing λ port words.
     andThen (first hexByte words) nothing λ byte2 words.
     andThen (first hexByte words) nothing λ byte3 words.
@@ -66,22 +66,22 @@ pub record Lent : Type 0 where
   pub offset : ℕ
   pub room : ℕ
 
-unfoldable pub lent : List (List ℕ) → Read Lent
+unfoldable pub lent : List (List ℕ) → NextValue Lent
 lent words =
     andThen (first number words) nothing λ offset words.
     andThen (first roomNumber words) nothing λ room words.
     got (record { offset = offset; room = room }) words
 
 -- a byte before other bytes
-abbrev pub before : Option ℕ → Option (List ℕ) → Option (List ℕ)
-before none bytes = none
-before (some byte) none = none
-before (some byte) (some bytes) = some (byte ∷ bytes)
+abbrev pub inFront : Option ℕ → Option (List ℕ) → Option (List ℕ)
+inFront none bytes = none
+inFront (some byte) none = none
+inFront (some byte) (some bytes) = some (byte ∷ bytes)
 
 -- HH..: every word is a byte
 unfoldable pub bytesOf : List (List ℕ) → Option (List ℕ)
 bytesOf [] = some []
-bytesOf (word ∷ following) = before (hexByte word) (bytesOf following)
+bytesOf (word ∷ following) = inFront (hexByte word) (bytesOf following)
 
 -- no report, payload or parameter list is longer
 abbrev pub mostBytes : ℕ

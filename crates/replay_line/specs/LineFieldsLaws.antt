@@ -13,7 +13,7 @@ use borrow.Author.Tests.{le-leb, lt-leb}
 use Rattle.replay_line.specs.LineWords.{words, noWord}
 use Rattle.replay_line.specs.LineContracts.{part, wordFrom, NextWord}
 use Rattle.replay_line.specs.LineValues.{hexByte, number}
-use Rattle.replay_line.specs.LineFields.{Read, nothing, got, valued, first, upTo, before, bytesOf, mostBytes, limited}
+use Rattle.replay_line.specs.LineFields.{NextValue, nothing, got, valued, first, upTo, inFront, bytesOf, mostBytes, limited}
 
 pub no-byte : hexByte [] ≡ none
 unfolding hexByte
@@ -41,7 +41,7 @@ module _ (value : List ℕ → Option ℕ) (empty : value [] ≡ none) where
 
 -- the same up to a limit
 module _ (limit : ℕ) where
-  abbrev pub within : Read ℕ → Read ℕ
+  abbrev pub within : NextValue ℕ → NextValue ℕ
   within nothing = nothing
   within (got n following) = cond (leb n limit) (got n following) nothing
 
@@ -66,21 +66,21 @@ after-nothing : (o : Option (List ℕ)) → o ≡ after [] o
 after-nothing none = refl
 after-nothing (some bytes) = refl
 
-after-one : (read : List ℕ) (b : ℕ) (o : Option (List ℕ)) → after read (before (some b) o) ≡ after (read ++ (b ∷ [])) o
+after-one : (read : List ℕ) (b : ℕ) (o : Option (List ℕ)) → after read (inFront (some b) o) ≡ after (read ++ (b ∷ [])) o
 after-one read b none = refl
 after-one read b (some bytes) = ap some (sym (append-assoc read (b ∷ []) bytes))
 
-one-byte : (given : List (List ℕ)) {b : ℕ} {following : List (List ℕ)} → first hexByte given ≡ got b following → bytesOf given ≡ before (some b) (bytesOf following)
+one-byte : (given : List (List ℕ)) {b : ℕ} {following : List (List ℕ)} → first hexByte given ≡ got b following → bytesOf given ≡ inFront (some b) (bytesOf following)
 unfolding bytesOf
 one-byte [] e = absurd (let z : _≡_ {A = ℕ} 0 1 = cc in omega arith)
 one-byte (word ∷ rest) {b} {following} e = by (hexByte word) e
   where
-    by : (o : Option ℕ) → valued o rest ≡ got b following → before o (bytesOf rest) ≡ before (some b) (bytesOf following)
+    by : (o : Option ℕ) → valued o rest ≡ got b following → inFront o (bytesOf rest) ≡ inFront (some b) (bytesOf following)
     by none e = absurd (let z : _≡_ {A = ℕ} 0 1 = cc in omega arith)
     by (some n) e =
         let same : n ≡ b = cc in
         let left : rest ≡ following = cc in
-        ap (λ (m : ℕ). before (some m) (bytesOf rest)) same ∙ ap (λ (l : List (List ℕ)). before (some b) (bytesOf l)) left
+        ap (λ (m : ℕ). inFront (some m) (bytesOf rest)) same ∙ ap (λ (l : List (List ℕ)). inFront (some b) (bytesOf l)) left
 
 whole : (read : List ℕ) → length read ≤ mostBytes → some read ≡ limited (some (read ++ []))
 whole read h = sym (ap (λ (l : List ℕ). limited (some l)) (append-nil read) ∙ ap (λ (t : Bool). cond t (some read) none) (le-leb (length read) mostBytes h))
@@ -91,7 +91,7 @@ unfolding bytesOf
 stopped-by read [] h e = whole read h
 stopped-by read (word ∷ rest) h e = by (hexByte word) e
   where
-    by : (o : Option ℕ) → valued o rest ≡ nothing → none ≡ limited (after read (before o (bytesOf rest)))
+    by : (o : Option ℕ) → valued o rest ≡ nothing → none ≡ limited (after read (inFront o (bytesOf rest)))
     by none e = refl
     by (some n) e = absurd (let z : _≡_ {A = ℕ} 0 1 = cc in omega arith)
 
@@ -101,7 +101,7 @@ unfolding bytesOf
 full-by read [] h = whole read (omega arith)
 full-by read (word ∷ rest) h = by (hexByte word) (bytesOf rest)
   where
-    by : (o : Option ℕ) (left : Option (List ℕ)) → none ≡ limited (after read (before o left))
+    by : (o : Option ℕ) (left : Option (List ℕ)) → none ≡ limited (after read (inFront o left))
     by none left = refl
     by (some n) none = refl
     by (some n) (some bytes) =

@@ -3,8 +3,8 @@ ghost use mathlib.Core.Path.{_≡_};
 ghost use lib.ListN.{drop};
 ghost use Rattle.replay_line.specs.LineWords.{words};
 ghost use Rattle.replay_line.specs.LineValues.{hexByte, number};
-ghost use Rattle.replay_line.specs.LineFields.{first, portNumber, target, lent, bytesOf, limited};
-ghost use Rattle.replay_line.specs.LineContracts.{byteRead, numberRead, targetRead, lentRead, Lists};
+ghost use Rattle.replay_line.specs.LineFields.{first, portNumber, portAndBytes, lent, bytesOf, limited};
+ghost use Rattle.replay_line.specs.LineContracts.{byteRead, numberRead, portAndBytesRead, lentRead, Lists};
 use crate::values;
 use crate::values::Decimal;
 use crate::values::Hex;
@@ -26,8 +26,8 @@ pub enum NextNumber {
 }
 
 // PORT B2 B3.
-pub enum NextTarget {
-    Target {
+pub enum NextPortAndBytes {
+    PortAndBytes {
         port: Device,
         byte2: FeatureIndex,
         byte3: u8,
@@ -92,19 +92,19 @@ pub fn next_port(line: &[u8], at: usize) -> NextByte
 }
 
 // PORT B2 B3.
-pub fn next_target(line: &[u8], at: usize) -> NextTarget
-    ensures read { λ r. ⌜ targetRead (now (line .entry)) r ≡ target (words (drop at (now (line .entry)))) ⌝ }
+pub fn next_port_and_bytes(line: &[u8], at: usize) -> NextPortAndBytes
+    ensures read { λ r. ⌜ portAndBytesRead (now (line .entry)) r ≡ portAndBytes (words (drop at (now (line .entry)))) ⌝ }
 {
     let NextByte::Byte { value: port, next } = next_port(line, at) else {
-        return NextTarget::Nothing;
+        return NextPortAndBytes::Nothing;
     };
     let NextByte::Byte { value: byte2, next } = next_byte(line, next) else {
-        return NextTarget::Nothing;
+        return NextPortAndBytes::Nothing;
     };
     let NextByte::Byte { value: byte3, next } = next_byte(line, next) else {
-        return NextTarget::Nothing;
+        return NextPortAndBytes::Nothing;
     };
-    NextTarget::Target {
+    NextPortAndBytes::PortAndBytes {
         port: Device(port),
         byte2: FeatureIndex(byte2),
         byte3,

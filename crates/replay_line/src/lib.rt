@@ -4,12 +4,12 @@ ghost use mathlib.Core.List.{[]};
 ghost use Prim.Native.Nat.{_≤_};
 ghost use lib.ListN.{length, take, drop};
 ghost use Rattle.replay_line.specs.LineWords.{words};
-ghost use Rattle.replay_line.specs.LineCalls.{alone, withBytes, lentAlone, lentBytes, requestCall, cancelCall, switchCall, ledCall, frameCall, called, table, otherRows, writerRows, callOf, withoutReturn, lineRule};
+ghost use Rattle.replay_line.specs.LineCalls.{withNoMore, withBytes, lentAlone, lentBytes, requestCall, cancelCall, switchCall, ledCall, frameCall, commandNamed, table, otherRows, writerRows, commandIn, withoutReturn, lineRule};
 ghost use Rattle.replay_line.specs.LineContracts.{writerOf, commandOf, parsedCommand, Parses};
 use fields::NextByte;
 use fields::NextLent;
 use fields::NextNumber;
-use fields::NextTarget;
+use fields::NextPortAndBytes;
 use report::Device;
 use report::FeatureIndex;
 
@@ -91,8 +91,8 @@ fn bare(command: Command) -> Parsed
 }
 
 // A command after which no word is left.
-fn alone_at(command: Command, line: &[u8], at: usize) -> Parsed
-    ensures { λ r. ⌜ Parses (alone (commandOf command []) (words (drop at (now (line .entry))))) r ⌝ }
+fn with_no_more(command: Command, line: &[u8], at: usize) -> Parsed
+    ensures { λ r. ⌜ Parses (withNoMore (commandOf command []) (words (drop at (now (line .entry))))) r ⌝ }
 {
     if words::is_end(line, at) {
         return bare(command);
@@ -128,7 +128,7 @@ fn lent_alone(writer: Writer, line: &[u8], at: usize) -> Parsed
         offset,
         room,
     };
-    alone_at(command, line, next)
+    with_no_more(command, line, next)
 }
 
 // A writer, then these two, and then its parameters.
@@ -149,12 +149,12 @@ fn lent_bytes(writer: Writer, line: &[u8], at: usize) -> Parsed
 fn request_call(line: &[u8], at: usize) -> Parsed
     ensures { λ r. ⌜ Parses (requestCall (words (drop at (now (line .entry))))) r ⌝ }
 {
-    let NextTarget::Target {
+    let NextPortAndBytes::PortAndBytes {
         port,
         byte2,
         byte3,
         next,
-    } = fields::next_target(line, at)
+    } = fields::next_port_and_bytes(line, at)
     else {
         return bare(Command::NoCall);
     };
@@ -173,16 +173,16 @@ fn request_call(line: &[u8], at: usize) -> Parsed
 fn cancel_call(line: &[u8], at: usize) -> Parsed
     ensures { λ r. ⌜ Parses (cancelCall (words (drop at (now (line .entry))))) r ⌝ }
 {
-    let NextTarget::Target {
+    let NextPortAndBytes::PortAndBytes {
         port,
         byte2,
         byte3,
         next,
-    } = fields::next_target(line, at)
+    } = fields::next_port_and_bytes(line, at)
     else {
         return bare(Command::NoCall);
     };
-    alone_at(Command::Cancel { port, byte2, byte3 }, line, next)
+    with_no_more(Command::Cancel { port, byte2, byte3 }, line, next)
 }
 
 fn switch_call(line: &[u8], at: usize) -> Parsed
@@ -220,12 +220,12 @@ fn led_call(line: &[u8], at: usize) -> Parsed
 fn frame_call(line: &[u8], at: usize) -> Parsed
     ensures { λ r. ⌜ Parses (frameCall (words (drop at (now (line .entry))))) r ⌝ }
 {
-    let NextTarget::Target {
+    let NextPortAndBytes::PortAndBytes {
         port,
         byte2,
         byte3,
         next,
-    } = fields::next_target(line, at)
+    } = fields::next_port_and_bytes(line, at)
     else {
         return bare(Command::NoCall);
     };
@@ -234,7 +234,7 @@ fn frame_call(line: &[u8], at: usize) -> Parsed
 
 // The calls that need no station, and the dump.
 fn other_call(name: &[u8], line: &[u8], at: usize) -> Parsed
-    ensures { λ r. ⌜ Parses (called otherRows (now (name .entry)) (words (drop at (now (line .entry))))) r ⌝ }
+    ensures { λ r. ⌜ Parses (commandNamed otherRows (now (name .entry)) (words (drop at (now (line .entry))))) r ⌝ }
 {
     if words::is_word(name, b"read") {
         return with_bytes(Command::Read, line, at);
@@ -246,14 +246,14 @@ fn other_call(name: &[u8], line: &[u8], at: usize) -> Parsed
         return with_bytes(Command::Mouse, line, at);
     }
     if words::is_word(name, b"dump") {
-        return alone_at(Command::Dump, line, at);
+        return with_no_more(Command::Dump, line, at);
     }
     bare(Command::NoCall)
 }
 
 // The calls that write into a lent buffer, except a request; and those after them in the table.
 fn writer_call(name: &[u8], line: &[u8], at: usize) -> Parsed
-    ensures { λ r. ⌜ Parses (called writerRows (now (name .entry)) (words (drop at (now (line .entry))))) r ⌝ }
+    ensures { λ r. ⌜ Parses (commandNamed writerRows (now (name .entry)) (words (drop at (now (line .entry))))) r ⌝ }
 {
     if words::is_word(name, b"switch") {
         return switch_call(line, at);
@@ -272,7 +272,7 @@ fn writer_call(name: &[u8], line: &[u8], at: usize) -> Parsed
 
 // The call of this name, whose other words start at `at`.
 fn named_call(name: &[u8], line: &[u8], at: usize) -> Parsed
-    ensures { λ r. ⌜ Parses (called table (now (name .entry)) (words (drop at (now (line .entry))))) r ⌝ }
+    ensures { λ r. ⌜ Parses (commandNamed table (now (name .entry)) (words (drop at (now (line .entry))))) r ⌝ }
 {
     if words::is_word(name, b"take") {
         return with_bytes(Command::Take, line, at);
@@ -284,13 +284,13 @@ fn named_call(name: &[u8], line: &[u8], at: usize) -> Parsed
         return cancel_call(line, at);
     }
     if words::is_word(name, b"tick") {
-        return alone_at(Command::Tick, line, at);
+        return with_no_more(Command::Tick, line, at);
     }
     writer_call(name, line, at)
 }
 
 fn parse_call(text: &[u8]) -> Parsed
-    ensures { λ r. ⌜ Parses (callOf (words (now (text .entry)))) r ⌝ }
+    ensures { λ r. ⌜ Parses (commandIn (words (now (text .entry)))) r ⌝ }
 {
     let word = words::next_word(text, 0);
     let start = word.start;

@@ -11,7 +11,8 @@ use Rattle.station.specs.declared.Station.{Station}
 use Rattle.replay_line.specs.Commands.{Command}
 use Rattle.replay_line.specs.LineCalls.{lineRule}
 use Rattle.replay_desk.specs.LineAnswers.{answerRoom, commandRule}
-use Rattle.replay_script.specs.ReplayRuns.{newline, Unbroken, none, more, linesAfter, nextNumber, answerTo, Ran, before, runLines, runRule}
+use Rattle.text.specs.Words.{newline}
+use Rattle.replay_script.specs.ReplayRuns.{Unbroken, none, more, linesAfter, nextNumber, answerTo, Ran, before, runLines, runRule}
 use Rattle.replay_script.specs.Shares.{Share, shareNone, beforeShare, shareAfter, shareRule}
 
 pub unbroken-append : {s t : List ℕ} → Unbroken s → Unbroken t → Unbroken (s ++ t)

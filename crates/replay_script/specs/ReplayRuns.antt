@@ -4,12 +4,10 @@ use mathlib.Core.Path.{_≡_}
 use mathlib.Core.Bool.{false, cond}
 use mathlib.Core.List.{List, [], _∷_, _++_}
 use lib.Dec.{eqb}
+use Rattle.text.specs.Words.{newline}
 use Rattle.station.specs.declared.Station.{Station}
 use Rattle.replay_line.specs.LineCalls.{lineRule}
-use Rattle.replay_desk.specs.LineAnswers.{Answer, commandRule}
-
-abbrev pub newline : ℕ
-newline = 10
+use Rattle.replay_desk.specs.LineAnswers.{LineAnswer, commandRule}
 
 -- a text without a newline
 pub data Unbroken : List ℕ → Type 0 where
@@ -33,7 +31,7 @@ abbrev pub nextNumber : ℕ → ℕ
 nextNumber number = (number + 1) % 2 ^ 64
 
 -- what the line after this number of lines gives
-abbrev pub answerTo : Station → (number : ℕ) → (line : List ℕ) → Answer
+abbrev pub answerTo : Station → (number : ℕ) → (line : List ℕ) → LineAnswer
 answerTo st number line = commandRule st (nextNumber number) (lineRule line)
 
 -- what a run gives: the answers end to end, the last station, and the number of lines

@@ -17,11 +17,12 @@ use Rattle.frame.specs.declared.Written.the-variants.{Refused, Bytes}
 use Rattle.report.specs.declared.Refusal.{Refusal}
 use Rattle.station.specs.declared.Station.{Station}
 use Rattle.replay_desk.specs.declared.Answered.{Answered}
-use Rattle.replay_desk.specs.LineAnswers.{Answer, LineOutcome, answerRoom, put, answerRule, commandRule}
+use Rattle.replay_desk.specs.LineAnswers.{LineAnswer, LineOutcome, answerRoom, put, answerRule, commandRule}
 use Rattle.replay_desk.specs.DeskContracts.{answeredBy, endBy}
 use Rattle.replay_line.specs.LineCalls.{lineRule}
 use Rattle.replay_script.specs.declared.Run.{Run}
-use Rattle.replay_script.specs.ReplayRuns.{newline, nextNumber, answerTo}
+use Rattle.text.specs.Words.{newline}
+use Rattle.replay_script.specs.ReplayRuns.{nextNumber, answerTo}
 use Rattle.replay_script.specs.Shares.{Share, shareNone, beforeShare, shareAfter, shareRule}
 use Rattle.replay_script.specs.ScriptContracts.{shareOf, Adds}
 
@@ -167,7 +168,7 @@ module _ {text out₀ : List ℕ} {run₀ : Run} {out : List ℕ} {run : Run} {a
 
     -- the line is answered
     module _ (much : answerRoom ≤ length out - run .filled) (r : Run) {out₁ : List ℕ} (a : Adds run (take (end - at) (drop at text)) out r out₁) (stays : length out ≡ length out₁) where
-      abbrev given : Answer
+      abbrev given : LineAnswer
       given = answerTo (run .station) (run .number) line
 
       same-line : take (end - at) (drop at text) ≡ line

@@ -6,7 +6,8 @@ use lib.ListN.{length}
 use lib.Dec.{eqb, leb}
 use Rattle.station.specs.declared.Station.{Station}
 use Rattle.replay_desk.specs.LineAnswers.{answerRoom}
-use Rattle.replay_script.specs.ReplayRuns.{newline, nextNumber, answerTo}
+use Rattle.text.specs.Words.{newline}
+use Rattle.replay_script.specs.ReplayRuns.{nextNumber, answerTo}
 
 -- the answers end to end, the station and the number of lines after them, what is left of the text, and whether a whole line is left for want of room
 pub record Share : Type 0 where

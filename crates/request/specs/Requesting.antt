@@ -22,8 +22,8 @@ abbrev pub isForbidden : ℕ → ℕ → ℕ → List ℕ → Bool
 isForbidden byte2 byte3 ticks params = isForbiddenFrame byte2 byte3 params || not (inRange 1 ticks maxTicks)
 
 -- bytes 2 and 3, the first three parameters and the ticks left
-unfoldable pub pendingOf : ℕ → ℕ → ℕ → List ℕ → Request
-pendingOf byte2 byte3 ticks params =
+unfoldable pub waitingRequest : ℕ → ℕ → ℕ → List ℕ → Request
+waitingRequest byte2 byte3 ticks params =
     record {
       byte2 = record { 0 = byte2 };
       byte3 = byte3;
@@ -61,5 +61,5 @@ requestAt p device byte2 byte3 ticks params offset lent =
     cond (isForbidden byte2 byte3 ticks params) (refusedAt forbidden p lent)
     (cond (not (writing.fitsAt (length (writing.requestFrame device byte2 byte3 params)) offset (length lent)))
     (refusedAt noRoom p lent)
-    (requestBy (waiting.roomFor (p .places) byte2 byte3) p (pendingOf byte2 byte3 ticks params)
+    (requestBy (waiting.roomFor (p .places) byte2 byte3) p (waitingRequest byte2 byte3 ticks params)
     (writing.requestFrame device byte2 byte3 params) offset lent))

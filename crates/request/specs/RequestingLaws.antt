@@ -21,7 +21,7 @@ use Rattle.port.specs.declared.Port.{Port}
 use Rattle.port.specs.declared.Request.{Request}
 use Rattle.port.specs.Waiting as waiting
 use Rattle.request.specs.declared.PortRequested.{PortRequested}
-use Rattle.request.specs.Requesting.{RequestAt, maxTicks, isForbidden, pendingOf, refusedAt, withWaiting, requestBy, requestAt}
+use Rattle.request.specs.Requesting.{RequestAt, maxTicks, isForbidden, waitingRequest, refusedAt, withWaiting, requestBy, requestAt}
 use Rattle.request.specs.RequestContracts.{checkedRequest, refusedWith, requestedOf}
 
 module _ (byte2 byte3 ticks : ℕ) (params : List ℕ) (asked : isForbidden byte2 byte3 ticks params ≡ false) where
@@ -73,7 +73,7 @@ module _ (p : Port) (device byte2 byte3 ticks : ℕ) (params : List ℕ) (offset
 
       module _ (room : writing.fitsAt (4 + length params) offset (length lent) ≡ true) where
         -- past 5, 9 and 10 the port's places decide
-        decided : {r : waiting.Room} → waiting.roomFor (p .places) byte2 byte3 ≡ r → requestBy r p (pendingOf byte2 byte3 ticks params) frame offset lent ≡ rule
+        decided : {r : waiting.Room} → waiting.roomFor (p .places) byte2 byte3 ≡ r → requestBy r p (waitingRequest byte2 byte3 ticks params) frame offset lent ≡ rule
         unfolding rule checkedRequest requestAt frame
         decided e = simp (port, asked, ← sized, room, e)
 
@@ -85,10 +85,10 @@ module _ (p : Port) (device byte2 byte3 ticks : ℕ) (params : List ℕ) (offset
         unfolding writing.frameAt frame
         written = simp (← sized, room)
 
-        pub asks : {free : ℕ} {request : Request} {next : Port} (w : Written) {after : List ℕ} → waiting.roomFor (p .places) byte2 byte3 ≡ waiting.at free → request ≡ pendingOf byte2 byte3 (ticks % 256) params → next ≡ withWaiting p free request → writtenOutcome w after ≡ writing.frameAt (writing.requestFrame device byte2 byte3 params) offset lent → requestedOf (record { answer = w; port = next }) after ≡ checkedRequest p device byte2 byte3 ticks params offset lent
+        pub asks : {free : ℕ} {request : Request} {next : Port} (w : Written) {after : List ℕ} → waiting.roomFor (p .places) byte2 byte3 ≡ waiting.at free → request ≡ waitingRequest byte2 byte3 (ticks % 256) params → next ≡ withWaiting p free request → writtenOutcome w after ≡ writing.frameAt (writing.requestFrame device byte2 byte3 params) offset lent → requestedOf (record { answer = w; port = next }) after ≡ checkedRequest p device byte2 byte3 ticks params offset lent
         unfolding rule requestBy frame
         asks {free} {request} {next} w {after} r q n o =
-            let q′ : request ≡ pendingOf byte2 byte3 ticks params = q ∙ ap (λ (k : ℕ). pendingOf byte2 byte3 k params) (ticks-kept byte2 byte3 ticks params asked) in
+            let q′ : request ≡ waitingRequest byte2 byte3 ticks params = q ∙ ap (λ (k : ℕ). waitingRequest byte2 byte3 k params) (ticks-kept byte2 byte3 ticks params asked) in
             ap (λ (x : writing.WriteOutcome). outcome (x .answer) next (x .lent)) (o ∙ written)
             ∙ ap (λ (q : Port). outcome (writing.wrote (length frame)) q (writing.pasted frame offset lent)) (n ∙ ap (withWaiting p free) q′)
             ∙ decided r

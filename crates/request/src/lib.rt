@@ -1,7 +1,7 @@
 // A request at its port: its frame is written, and it waits.
 ghost use mathlib.Core.Path.{_≡_};
 ghost use Prim.Native.Nat.{_%_};
-ghost use Rattle.request.specs.Requesting.{isForbidden, pendingOf};
+ghost use Rattle.request.specs.Requesting.{isForbidden, waitingRequest};
 ghost use Rattle.request.specs.RequestContracts.{checkedRequest, refusedWith, requestedOf};
 use frame::Written;
 use port::FirstParameters;
@@ -37,8 +37,8 @@ fn is_forbidden(byte2: FeatureIndex, byte3: u8, ticks: u16, params: &[u8]) -> bo
 }
 
 // The request as it waits.
-fn pending(byte2: FeatureIndex, byte3: u8, ticks: u16, params: &[u8]) -> Request
-    ensures { λ r. ⌜ r ≡ pendingOf (byte2 .0) byte3 (ticks % 256) (now (params .entry)) ⌝ }
+fn waiting_request(byte2: FeatureIndex, byte3: u8, ticks: u16, params: &[u8]) -> Request
+    ensures { λ r. ⌜ r ≡ waitingRequest (byte2 .0) byte3 (ticks % 256) (now (params .entry)) ⌝ }
 {
     Request {
         byte2,
@@ -88,7 +88,7 @@ pub fn request_at(
     match waiting::room_for(places, byte2, byte3) {
         Admission::Refused(refusal) => refuse(port, refusal),
         Admission::At(place) => {
-            let request = pending(byte2, byte3, ticks, params);
+            let request = waiting_request(byte2, byte3, ticks, params);
             let next = port::with_places(port, port::with_request(places, place, request));
             let answer = frame::write_request(device, byte2, byte3, params, buffer, offset);
             PortRequested { answer, port: next }

@@ -28,19 +28,19 @@ use Rattle.sequence.specs.Transcripts.{Entry, entry, transcript, callsOf
 use Rattle.sequence.specs.Remaining.{view, remaining, compared}
 
 -- bytes that are lent: a reference r, whose bytes are `now r`
-abbrev Lent : Type 0
-Lent = RefT (List ℕ)
+abbrev pub LentBytes : Type 0
+LentBytes = RefT (List ℕ)
 
 -- what the program's own function was proved to ensure of a call made on this station, with the outcome that it gave: its contract, word for word. `Learnt` is what the prover recorded of a function's `ensures`: for its lifetimes (κ), its arguments, its result, and its arguments afterwards
 pub data Ensured (st : Station) : Call → Outcome → Type 0 where
-  byTake : (κ : List ℕ) (bytes : Lent) (r : TakeResult) → take-reads.Learnt (κ, tt) (st, (bytes, tt)) r (st, (bytes, tt)) → Ensured st (take (now bytes)) (takeStep (now bytes) (takeOutcome r))
-  byRequest : (κ κ′ : List ℕ) (device : Device) (byte2 : FeatureIndex) (byte3 ticks : ℕ) (params buffer after : Lent) (offset : ℕ) (r : RequestResult) → request-reads.Learnt (κ, (κ′, tt)) (st, (device, (byte2, (byte3, (ticks, (params, (buffer, (offset, tt)))))))) r (st, (device, (byte2, (byte3, (ticks, (params, (after, (offset, tt)))))))) → Ensured st (request (device .0) (byte2 .0) byte3 ticks (now params) offset (now buffer)) (requestStep (now params) (requestOutcome r (now after)))
+  byTake : (κ : List ℕ) (bytes : LentBytes) (r : TakeResult) → take-reads.Learnt (κ, tt) (st, (bytes, tt)) r (st, (bytes, tt)) → Ensured st (take (now bytes)) (takeStep (now bytes) (takeOutcome r))
+  byRequest : (κ κ′ : List ℕ) (device : Device) (byte2 : FeatureIndex) (byte3 ticks : ℕ) (params buffer after : LentBytes) (offset : ℕ) (r : RequestResult) → request-reads.Learnt (κ, (κ′, tt)) (st, (device, (byte2, (byte3, (ticks, (params, (buffer, (offset, tt)))))))) r (st, (device, (byte2, (byte3, (ticks, (params, (after, (offset, tt)))))))) → Ensured st (request (device .0) (byte2 .0) byte3 ticks (now params) offset (now buffer)) (requestStep (now params) (requestOutcome r (now after)))
   byCancel : (device : Device) (byte2 : FeatureIndex) (byte3 : ℕ) (r : CancelResult) → cancel-reads.Learnt tt (st, (device, (byte2, (byte3, tt)))) r (st, (device, (byte2, (byte3, tt)))) → Ensured st (cancel (device .0) (byte2 .0) byte3) (cancelStep (cancelOutcome r))
   byTick : (r : TickResult) → tick-reads.Learnt tt (st, tt) r (st, tt) → Ensured st tick (tickStep (tickOutcome r))
-  bySwitch : (κ : List ℕ) (bits timeout : ℕ) (buffer after : Lent) (offset : ℕ) (r : Written) → switch-reads.Learnt (κ, tt) (st, (bits, (timeout, (buffer, (offset, tt))))) r (st, (bits, (timeout, (after, (offset, tt))))) → Ensured st (write (switch bits timeout) offset (now buffer)) (writeStep st (writtenOutcome r (now after)))
-  byGetPaired : (κ : List ℕ) (buffer after : Lent) (offset : ℕ) (r : Written) → get-paired-reads.Learnt (κ, tt) (st, (buffer, (offset, tt))) r (st, (after, (offset, tt))) → Ensured st (write getPaired offset (now buffer)) (writeStep st (writtenOutcome r (now after)))
-  byLed : (κ : List ℕ) (device : Device) (leds : ℕ) (buffer after : Lent) (offset : ℕ) (r : Written) → led-reads.Learnt (κ, tt) (st, (device, (leds, (buffer, (offset, tt))))) r (st, (device, (leds, (after, (offset, tt))))) → Ensured st (write (led (device .0) leds) offset (now buffer)) (writeStep st (writtenOutcome r (now after)))
-  byList : (κ : List ℕ) (buffer after : Lent) (offset : ℕ) (r : Written) → list-reads.Learnt (κ, tt) (st, (buffer, (offset, tt))) r (st, (after, (offset, tt))) → Ensured st (write list offset (now buffer)) (writeStep st (writtenOutcome r (now after)))
+  bySwitch : (κ : List ℕ) (bits timeout : ℕ) (buffer after : LentBytes) (offset : ℕ) (r : Written) → switch-reads.Learnt (κ, tt) (st, (bits, (timeout, (buffer, (offset, tt))))) r (st, (bits, (timeout, (after, (offset, tt))))) → Ensured st (write (switch bits timeout) offset (now buffer)) (writeStep st (writtenOutcome r (now after)))
+  byGetPaired : (κ : List ℕ) (buffer after : LentBytes) (offset : ℕ) (r : Written) → get-paired-reads.Learnt (κ, tt) (st, (buffer, (offset, tt))) r (st, (after, (offset, tt))) → Ensured st (write getPaired offset (now buffer)) (writeStep st (writtenOutcome r (now after)))
+  byLed : (κ : List ℕ) (device : Device) (leds : ℕ) (buffer after : LentBytes) (offset : ℕ) (r : Written) → led-reads.Learnt (κ, tt) (st, (device, (leds, (buffer, (offset, tt))))) r (st, (device, (leds, (after, (offset, tt))))) → Ensured st (write (led (device .0) leds) offset (now buffer)) (writeStep st (writtenOutcome r (now after)))
+  byList : (κ : List ℕ) (buffer after : LentBytes) (offset : ℕ) (r : Written) → list-reads.Learnt (κ, tt) (st, (buffer, (offset, tt))) r (st, (after, (offset, tt))) → Ensured st (write list offset (now buffer)) (writeStep st (writtenOutcome r (now after)))
 
 -- a call that the program made, with the outcome that it gave
 pub record Made : Type 0 where
@@ -56,9 +56,9 @@ History st [] = Unit {0}
 History st (m ∷ ms) = Ensured st (m .call) (m .outcome) × History (m .outcome .station) ms
 
 -- the station at its end
-unfoldable pub last : Station → List Made → Station
-last st [] = st
-last st (m ∷ ms) = last (m .outcome .station) ms
+unfoldable pub stationAfter : Station → List Made → Station
+stationAfter st [] = st
+stationAfter st (m ∷ ms) = stationAfter (m .outcome .station) ms
 
 -- its transcript: each call, the port that it is for, and what the program returned
 unfoldable pub made : Station → List Made → List Entry
@@ -67,12 +67,12 @@ made st (m ∷ ms) = entry st (m .call) (m .outcome) ∷ made (m .outcome .stati
 
 -- every answer, every lent byte and the final station of a history are those of the rules' run
 pub record ByTheRules (st : Station) (ms : List Made) : Type 0 where
-  pub station : last st ms ≡ run st (map callOf ms)
+  pub station : stationAfter st ms ≡ run st (map callOf ms)
   pub entries : made st ms ≡ transcript st (map callOf ms)
 
 -- the second history makes the calls that remain of the first for the port of a number
 pub record AloneInProgram (n : ℕ) (st : Station) (ms ns : List Made) : Type 0 where
-  pub holds : view n (last st ms) ≡ view n (last st ns)
+  pub holds : view n (stationAfter st ms) ≡ view n (stationAfter st ns)
   pub returns : compared n (remaining n (made st ms)) ≡ compared n (made st ns)
 
 -- striking out leaves, for each port, the same calls in the same order

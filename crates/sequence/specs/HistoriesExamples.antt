@@ -2,7 +2,7 @@
 use Prim.Native.Nat.{ℕ}
 use mathlib.Core.Path.{refl}
 use mathlib.Core.List.{List, [], _∷_}
-use denote.Ref.{RefT, now}
+use denote.Ref.{now}
 use Rattle.report.specs.declared.Device.{Device}
 use Rattle.report.specs.declared.FeatureIndex.{FeatureIndex}
 use Rattle.report.specs.declared.Refusal.the-variants.{EmptyReport}
@@ -27,21 +27,18 @@ use Rattle.station.proofs.Station.get_paired.Reads as get-paired-reads
 use Rattle.station.proofs.Station.led.Reads as led-reads
 use Rattle.station.proofs.Station.list.Reads as list-reads
 use Rattle.sequence.specs.Steps.{switch, getPaired, led, list, take, request, cancel, tick, write, takeStep, requestStep, cancelStep, tickStep, writeStep}
-use Rattle.sequence.specs.Histories.{Ensured, byTake, byRequest, byCancel, byTick, bySwitch, byGetPaired, byLed, byList, Made, History}
-
-abbrev Lent : Type 0
-Lent = RefT (List ℕ)
+use Rattle.sequence.specs.Histories.{LentBytes, Ensured, byTake, byRequest, byCancel, byTick, bySwitch, byGetPaired, byLed, byList, Made, History}
 
 -- each of the eight calls, with any arguments, result and lent bytes of which its contract holds
 record EachCall : Type 0 where
-  of-take : (κ : List ℕ) (st : Station) (bytes : Lent) (r : TakeResult) → take-reads.Learnt (κ, tt) (st, (bytes, tt)) r (st, (bytes, tt)) → Ensured st (take (now bytes)) (takeStep (now bytes) (takeOutcome r))
-  of-request : (κ κ′ : List ℕ) (st : Station) (device : Device) (byte2 : FeatureIndex) (byte3 ticks : ℕ) (params buffer after : Lent) (offset : ℕ) (r : RequestResult) → request-reads.Learnt (κ, (κ′, tt)) (st, (device, (byte2, (byte3, (ticks, (params, (buffer, (offset, tt)))))))) r (st, (device, (byte2, (byte3, (ticks, (params, (after, (offset, tt)))))))) → Ensured st (request (device .0) (byte2 .0) byte3 ticks (now params) offset (now buffer)) (requestStep (now params) (requestOutcome r (now after)))
+  of-take : (κ : List ℕ) (st : Station) (bytes : LentBytes) (r : TakeResult) → take-reads.Learnt (κ, tt) (st, (bytes, tt)) r (st, (bytes, tt)) → Ensured st (take (now bytes)) (takeStep (now bytes) (takeOutcome r))
+  of-request : (κ κ′ : List ℕ) (st : Station) (device : Device) (byte2 : FeatureIndex) (byte3 ticks : ℕ) (params buffer after : LentBytes) (offset : ℕ) (r : RequestResult) → request-reads.Learnt (κ, (κ′, tt)) (st, (device, (byte2, (byte3, (ticks, (params, (buffer, (offset, tt)))))))) r (st, (device, (byte2, (byte3, (ticks, (params, (after, (offset, tt)))))))) → Ensured st (request (device .0) (byte2 .0) byte3 ticks (now params) offset (now buffer)) (requestStep (now params) (requestOutcome r (now after)))
   of-cancel : (st : Station) (device : Device) (byte2 : FeatureIndex) (byte3 : ℕ) (r : CancelResult) → cancel-reads.Learnt tt (st, (device, (byte2, (byte3, tt)))) r (st, (device, (byte2, (byte3, tt)))) → Ensured st (cancel (device .0) (byte2 .0) byte3) (cancelStep (cancelOutcome r))
   of-tick : (st : Station) (r : TickResult) → tick-reads.Learnt tt (st, tt) r (st, tt) → Ensured st tick (tickStep (tickOutcome r))
-  of-switch : (κ : List ℕ) (st : Station) (bits timeout : ℕ) (buffer after : Lent) (offset : ℕ) (r : Written) → switch-reads.Learnt (κ, tt) (st, (bits, (timeout, (buffer, (offset, tt))))) r (st, (bits, (timeout, (after, (offset, tt))))) → Ensured st (write (switch bits timeout) offset (now buffer)) (writeStep st (writtenOutcome r (now after)))
-  of-get-paired : (κ : List ℕ) (st : Station) (buffer after : Lent) (offset : ℕ) (r : Written) → get-paired-reads.Learnt (κ, tt) (st, (buffer, (offset, tt))) r (st, (after, (offset, tt))) → Ensured st (write getPaired offset (now buffer)) (writeStep st (writtenOutcome r (now after)))
-  of-led : (κ : List ℕ) (st : Station) (device : Device) (leds : ℕ) (buffer after : Lent) (offset : ℕ) (r : Written) → led-reads.Learnt (κ, tt) (st, (device, (leds, (buffer, (offset, tt))))) r (st, (device, (leds, (after, (offset, tt))))) → Ensured st (write (led (device .0) leds) offset (now buffer)) (writeStep st (writtenOutcome r (now after)))
-  of-list : (κ : List ℕ) (st : Station) (buffer after : Lent) (offset : ℕ) (r : Written) → list-reads.Learnt (κ, tt) (st, (buffer, (offset, tt))) r (st, (after, (offset, tt))) → Ensured st (write list offset (now buffer)) (writeStep st (writtenOutcome r (now after)))
+  of-switch : (κ : List ℕ) (st : Station) (bits timeout : ℕ) (buffer after : LentBytes) (offset : ℕ) (r : Written) → switch-reads.Learnt (κ, tt) (st, (bits, (timeout, (buffer, (offset, tt))))) r (st, (bits, (timeout, (after, (offset, tt))))) → Ensured st (write (switch bits timeout) offset (now buffer)) (writeStep st (writtenOutcome r (now after)))
+  of-get-paired : (κ : List ℕ) (st : Station) (buffer after : LentBytes) (offset : ℕ) (r : Written) → get-paired-reads.Learnt (κ, tt) (st, (buffer, (offset, tt))) r (st, (after, (offset, tt))) → Ensured st (write getPaired offset (now buffer)) (writeStep st (writtenOutcome r (now after)))
+  of-led : (κ : List ℕ) (st : Station) (device : Device) (leds : ℕ) (buffer after : LentBytes) (offset : ℕ) (r : Written) → led-reads.Learnt (κ, tt) (st, (device, (leds, (buffer, (offset, tt))))) r (st, (device, (leds, (after, (offset, tt))))) → Ensured st (write (led (device .0) leds) offset (now buffer)) (writeStep st (writtenOutcome r (now after)))
+  of-list : (κ : List ℕ) (st : Station) (buffer after : LentBytes) (offset : ℕ) (r : Written) → list-reads.Learnt (κ, tt) (st, (buffer, (offset, tt))) r (st, (after, (offset, tt))) → Ensured st (write list offset (now buffer)) (writeStep st (writtenOutcome r (now after)))
 
 each-call : EachCall
 each-call =
@@ -57,7 +54,7 @@ each-call =
     }
 
 -- case a: the empty report, refused with 1, on a fresh station
-nothing-lent : Lent
+nothing-lent : LentBytes
 nothing-lent = record { ptr = (0, 0); name = 0; now = [] }
 
 refused-empty : TakeResult

@@ -11,7 +11,7 @@ use Rattle.sequence.specs.Transcripts.{Entry, transcript, callsOf}
 use Rattle.sequence.specs.Remaining.{view, remaining, compared}
 use Rattle.sequence.specs.Independence.{SameOrders}
 use Rattle.sequence.specs.IndependenceLaws as rules
-use Rattle.sequence.specs.Histories.{Made, callOf, Ensured, byTake, byRequest, byCancel, byTick, bySwitch, byGetPaired, byLed, byList, History, last, made, ByTheRules, AloneInProgram, SameOrdersInProgram}
+use Rattle.sequence.specs.Histories.{Made, callOf, Ensured, byTake, byRequest, byCancel, byTick, bySwitch, byGetPaired, byLed, byList, History, stationAfter, made, ByTheRules, AloneInProgram, SameOrdersInProgram}
 
 -- what the program's function ensures is the rules' step
 pub met : {st : Station} {c : Call} {o : Outcome} → Ensured st c o → o ≡ step st c
@@ -26,7 +26,7 @@ met {st} (byLed κ device leds buffer after offset r e) = ap (writeStep st) e
 met {st} (byList κ buffer after offset r e) = ap (writeStep st) e
 
 pub history : (st : Station) (ms : List Made) → History st ms → ByTheRules st ms
-unfolding History last made run transcript
+unfolding History stationAfter made run transcript
 history st [] k = record { station = refl; entries = refl }
 history st (m ∷ ms) k =
     let e : m .outcome ≡ step st (m .call) = met (k .0) in
@@ -44,7 +44,7 @@ alone n h st begins ms ns k l e =
       returns = ap (λ (es : List Entry). compared n (remaining n es)) (full .entries) ∙ ports .returns ∙ ap (λ (cs : List Call). compared n (transcript st cs)) (sym left) ∙ sym (ap (compared n) (part .entries));
     }
 
-pub orders : (st : Station) → Start st → (ms ns : List Made) → History st ms → History st ns → SameOrdersInProgram st ms ns → last st ms ≡ last st ns
+pub orders : (st : Station) → Start st → (ms ns : List Made) → History st ms → History st ns → SameOrdersInProgram st ms ns → stationAfter st ms ≡ stationAfter st ns
 orders st begins ms ns k l h =
     let first = history st ms k in
     let second = history st ns l in
@@ -52,7 +52,7 @@ orders st begins ms ns k l h =
     first .station ∙ rules.orders st begins (map callOf ms) (map callOf ns) same ∙ sym (second .station)
 
 -- a history may be cut in two anywhere: the second part begins where the first one ends
-pub cut : (st : Station) (ms ns : List Made) → History st (ms ++ ns) → History st ms × History (last st ms) ns
-unfolding History last
+pub cut : (st : Station) (ms ns : List Made) → History st (ms ++ ns) → History st ms × History (stationAfter st ms) ns
+unfolding History stationAfter
 cut st [] ns k = (tt, k)
 cut st (m ∷ ms) ns k = let rest = cut (m .outcome .station) ms ns (k .1) in ((k .0, rest .0), rest .1)

@@ -17,7 +17,7 @@ use Rattle.port.specs.Waiting as waiting
 use Rattle.hidpp.specs.declared.Message.{Message}
 use Rattle.hidpp.specs.HidppTaking.{messageOf, isError, errorFits, named2, named3, isMajor1, errorRule, replyRule, featureRule, unaskedRule, takeHidpp}
 use Rattle.dj.specs.DjTaking.{isDeclared, wpidOf, isPairedWith, radioRule, unpairedRule, pairedRule, linkRule, otherRule, takeDj}
-use Rattle.request.specs.Requesting.{isForbidden, RequestAt, refusedAt, pendingOf, requestBy, requestAt}
+use Rattle.request.specs.Requesting.{isForbidden, RequestAt, refusedAt, waitingRequest, requestBy, requestAt}
 use Rattle.listing.specs.Listing.{listingRule}
 use Rattle.station.specs.declared.Station.{Station}
 use Rattle.station.specs.Stations.{positionOf, portAt, withPort}
@@ -86,7 +86,7 @@ module _ (p : Port) where
 
   module _ (device byte2 byte3 ticks : ℕ) (params : List ℕ) (offset : ℕ) (lent : List ℕ) where
     abbrev Into : waiting.Room → Type 0
-    Into room = RequestKind lent (requestBy room p (pendingOf byte2 byte3 ticks params) (writing.requestFrame device byte2 byte3 params) offset lent)
+    Into room = RequestKind lent (requestBy room p (waitingRequest byte2 byte3 ticks params) (writing.requestFrame device byte2 byte3 params) offset lent)
 
     request-kind : RequestKind lent (requestAt p device byte2 byte3 ticks params offset lent)
     unfolding requestAt requestBy waiting.roomFor

@@ -12,6 +12,10 @@ abbrev pub ascii : strings.String → List ℕ
 ascii strings.[] = []
 ascii (strings._∷_ c cs) = code c ∷ ascii cs
 
+-- the byte that ends a line
+abbrev pub newline : ℕ
+newline = 10
+
 -- one digit, hexadecimal in capitals
 unfoldable pub digit : ℕ → ℕ
 digit n = getD (ascii "0123456789ABCDEF") n 0

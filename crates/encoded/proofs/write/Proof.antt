@@ -1,24 +1,24 @@
 -- `encoded::write` meets its contract.
 use borrow.Author.Tests.{ne-eqb}
-use Rattle.encoded.specs.Blocks.{writerOf}
+use Rattle.encoded.specs.Blocks.{blockWriter}
 use borrow.Author.Needs.{needs}
 use Rattle.encoded.proofs.write.Statement.{statement}
 use Rattle.encoded.proofs.write.Tie as tie
 
 returns : tie.Need-returns
-unfolding writerOf
+unfolding blockWriter
 returns c = simp (c .before .before .before .before .match .keys1) (c .before .before .switch .ensures)
 
 returns-2 : tie.Need-returns-2
-unfolding writerOf
+unfolding blockWriter
 returns-2 c = simp (c .before .before .before .before .match .keys2) (c .before .before .get-paired .ensures)
 
 returns-3 : tie.Need-returns-3
-unfolding writerOf
+unfolding blockWriter
 returns-3 c = simp (c .before .before .before .before .match .keys3) (c .before .before .led .ensures)
 
 returns-4 : tie.Need-returns-4
-unfolding writerOf
+unfolding blockWriter
 returns-4 c = simp (ne-eqb _ _ (c .before .before .before .before .match .rest .0 .0 .1), ne-eqb _ _ (c .before .before .before .before .match .rest .0 .1), ne-eqb _ _ (c .before .before .before .before .match .rest .1)) (c .before .before .list .ensures)
 
 pub write-spec : {M : Type 1} → statement M

@@ -2,7 +2,7 @@
 use lib.Dec.{lit≤}
 use Rattle.text.specs.PuttingLaws.{then-put}
 use Rattle.listing.specs.ListingWriteLaws.{front-within, front-length, front-written}
-use Rattle.listing.specs.Listing.{header, listing, listingRule}
+use Rattle.listing.specs.Listing.{headerLine, listing, listingRule}
 use borrow.Author.Needs.{needs}
 use Rattle.listing.proofs.write_listing.Statement.{statement}
 use Rattle.listing.proofs.write_listing.Tie as tie
@@ -14,7 +14,7 @@ slice-aggregate-write-at : tie.Need-slice-aggregate-write-at
 slice-aggregate-write-at c = front-length (then-put (c .before .before .before .before .before .put-word .ensures) (c .before .before .put-lines .ensures)) (lit≤ tt)
 
 returns : tie.Need-returns
-unfolding listingRule listing header
+unfolding listingRule listing headerLine
 returns c = front-written (then-put (c .before .before .before .before .before .before .before .before .before .put-word .ensures) (c .before .before .before .before .before .before .put-lines .ensures)) (lit≤ tt) _ _ (c .before .before .write-at .ensures)
 
 pub write-listing-spec : {M : Type 1} → statement M

@@ -9,7 +9,7 @@ returns : tie.Need-returns
 returns c = same-command (c .bare .ensures) (simp ((sym (rw (c .before .enum-told .given .1) at (c .before .before .before .next-lent .ensures)))))
 
 returns-2 : tie.Need-returns-2
-returns-2 c = same-command (c .alone-at .ensures) (simp ((sym (rw (c .before .before .offset .given .1) at (c .before .before .before .before .next-lent .ensures)))))
+returns-2 c = same-command (c .with-no-more .ensures) (simp ((sym (rw (c .before .before .offset .given .1) at (c .before .before .before .before .next-lent .ensures)))))
 
 pub lent-alone-spec : {M : Type 1} → statement M
 lent-alone-spec =

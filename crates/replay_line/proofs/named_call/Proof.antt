@@ -15,7 +15,7 @@ returns-3 : tie.Need-returns-3
 returns-3 c = same-command (c .cancel-call .ensures) (simp (sym (c .before .before .before .before .before .before .before .before .is-word .ensures) ∙ c .before .before .before .before .before .before .before .if1 .left, sym (c .before .before .before .before .before .is-word2 .ensures) ∙ c .before .before .before .before .if2 .left, sym (c .before .before .is-word3 .ensures) ∙ c .before .if3 .taken))
 
 returns-4 : tie.Need-returns-4
-returns-4 c = same-command (c .alone-at .ensures) (simp (sym (c .before .before .before .before .before .before .before .before .before .before .before .is-word .ensures) ∙ c .before .before .before .before .before .before .before .before .before .before .if1 .left, sym (c .before .before .before .before .before .before .before .before .is-word2 .ensures) ∙ c .before .before .before .before .before .before .before .if2 .left, sym (c .before .before .before .before .before .is-word3 .ensures) ∙ c .before .before .before .before .if3 .left, sym (c .before .before .is-word4 .ensures) ∙ c .before .if4 .taken))
+returns-4 c = same-command (c .with-no-more .ensures) (simp (sym (c .before .before .before .before .before .before .before .before .before .before .before .is-word .ensures) ∙ c .before .before .before .before .before .before .before .before .before .before .if1 .left, sym (c .before .before .before .before .before .before .before .before .is-word2 .ensures) ∙ c .before .before .before .before .before .before .before .if2 .left, sym (c .before .before .before .before .before .is-word3 .ensures) ∙ c .before .before .before .before .if3 .left, sym (c .before .before .is-word4 .ensures) ∙ c .before .if4 .taken))
 
 returns-5 : tie.Need-returns-5
 returns-5 c = same-command (c .writer-call .ensures) (simp (sym (c .before .before .before .before .before .before .before .before .before .before .before .is-word .ensures) ∙ c .before .before .before .before .before .before .before .before .before .before .if1 .left, sym (c .before .before .before .before .before .before .before .before .is-word2 .ensures) ∙ c .before .before .before .before .before .before .before .if2 .left, sym (c .before .before .before .before .before .is-word3 .ensures) ∙ c .before .before .before .before .if3 .left, sym (c .before .before .is-word4 .ensures) ∙ c .before .if4 .left))

@@ -21,7 +21,7 @@ returns-4 : tie.Need-returns-4
 returns-4 c = ask-refused _ _ _ _ _ _ _ _ (sym (c .before .before .before .before .before .before .before .before .before .before .before .is-port .ensures) ∙ not-false _ (c .before .before .before .before .before .before .before .before .before .before .if1 .left)) (sym (c .before .before .before .before .before .before .before .before .before .is-forbidden .ensures) ∙ c .before .before .before .before .before .before .before .before .if2 .left) (sym (c .before .before .before .before .before .before .before .fits2 .ensures) ∙ not-false _ (c .before .before .before .before .before .before .if3 .left)) _ (sym (c .before .before .before .before .room-for .ensures) ∙ ap roomOf (c .before .before .refusal .given .1)) (c .refuse4 .ensures)
 
 returns-5 : tie.Need-returns-5
-returns-5 c = asks _ _ _ _ _ _ _ _ (sym (c .before .before .before .before .before .before .before .before .before .before .before .before .before .before .before .before .before .is-port .ensures) ∙ not-false _ (c .before .before .before .before .before .before .before .before .before .before .before .before .before .before .before .before .if1 .left)) (sym (c .before .before .before .before .before .before .before .before .before .before .before .before .before .before .before .is-forbidden .ensures) ∙ c .before .before .before .before .before .before .before .before .before .before .before .before .before .before .if2 .left) (sym (c .before .before .before .before .before .before .before .before .before .before .before .before .before .fits2 .ensures) ∙ not-false _ (c .before .before .before .before .before .before .before .before .before .before .before .before .if3 .left)) (c .before .before .write-request .result) (sym (c .before .before .before .before .before .before .before .before .before .before .room-for .ensures) ∙ ap roomOf (c .before .before .before .before .before .before .before .before .place .given .1)) (c .before .before .before .before .before .before .pending .ensures) (c .before .before .before .before .with-places .ensures ∙ ap (withPlaces _) (c .before .before .before .before .before .with-request .ensures)) (c .before .before .write-request .ensures)
+returns-5 c = asks _ _ _ _ _ _ _ _ (sym (c .before .before .before .before .before .before .before .before .before .before .before .before .before .before .before .before .before .is-port .ensures) ∙ not-false _ (c .before .before .before .before .before .before .before .before .before .before .before .before .before .before .before .before .if1 .left)) (sym (c .before .before .before .before .before .before .before .before .before .before .before .before .before .before .before .is-forbidden .ensures) ∙ c .before .before .before .before .before .before .before .before .before .before .before .before .before .before .if2 .left) (sym (c .before .before .before .before .before .before .before .before .before .before .before .before .before .fits2 .ensures) ∙ not-false _ (c .before .before .before .before .before .before .before .before .before .before .before .before .if3 .left)) (c .before .before .write-request .result) (sym (c .before .before .before .before .before .before .before .before .before .before .room-for .ensures) ∙ ap roomOf (c .before .before .before .before .before .before .before .before .place .given .1)) (c .before .before .before .before .before .before .waiting-request .ensures) (c .before .before .before .before .with-places .ensures ∙ ap (withPlaces _) (c .before .before .before .before .before .with-request .ensures)) (c .before .before .write-request .ensures)
 
 pub request-at-spec : {M : Type 1} → statement M
 request-at-spec =

@@ -1,9 +1,9 @@
--- `replay_line::alone_at` meets its contract.
+-- `replay_line::with_no_more` meets its contract.
 use mathlib.Core.Path.{sym, _∙_}
 use Rattle.replay_line.specs.LineCallsLaws.{same-command}
 use borrow.Author.Needs.{needs}
-use Rattle.replay_line.proofs.alone_at.Statement.{statement}
-use Rattle.replay_line.proofs.alone_at.Tie as tie
+use Rattle.replay_line.proofs.with_no_more.Statement.{statement}
+use Rattle.replay_line.proofs.with_no_more.Tie as tie
 
 returns : tie.Need-returns
 returns c = same-command (c .bare .ensures) (simp (sym (c .before .before .is-end .ensures) ∙ c .before .if1 .taken))
@@ -11,8 +11,8 @@ returns c = same-command (c .bare .ensures) (simp (sym (c .before .before .is-en
 returns-2 : tie.Need-returns-2
 returns-2 c = same-command (c .bare2 .ensures) (simp (sym (c .before .before .is-end .ensures) ∙ c .before .if1 .left))
 
-pub alone-at-spec : {M : Type 1} → statement M
-alone-at-spec =
+pub with-no-more-spec : {M : Type 1} → statement M
+with-no-more-spec =
     tie.close
     (tie.spec
     (λ c κs. search needs)
