@@ -25,8 +25,7 @@ returns-2 : tie.Need-returns-2
 returns-2 c =
     let a = c .before .before .before .before .before .before .before .before .before .before .before .before .before .args in
     let e = sym (c .before .before .before .before .before .before .before .before .before .before .is-ready .ensures) ∙ not-false _ (c .before .before .before .before .before .before .before .before .before .if1 .left) in
-    let f = c .before .before .before .before .finish in
-    (
+    let f = c .before .before .before .before .finish in (
       finishes (a .state) (a .count) (a .buffer .now) (a .output .now) e (sym (c .before .before .before .before .before .before .before .before .is-end .ensures) ∙ c .before .before .before .before .before .before .before .if2 .taken) (f .ensures .0),
       made-leaves (a .state) (a .count) (a .buffer .now) (a .output .now) e (f .result) (f .ensures .1 .0) (f .ensures .1 .1) (search needs) (search needs),
     )
@@ -42,8 +41,7 @@ returns-3 : tie.Need-returns-3
 returns-3 c =
     let a = c .before .before .before .before .before .before .before .before .before .before .before .before .before .args in
     let e = sym (c .before .before .before .before .before .before .before .before .before .before .is-ready .ensures) ∙ not-false _ (c .before .before .before .before .before .before .before .before .before .if1 .left) in
-    let f = c .before .before .before .before .feed in
-    (
+    let f = c .before .before .before .before .feed in (
       feeds (a .state) (a .count) (a .buffer .now) (a .output .now) e (sym (c .before .before .before .before .before .before .before .before .is-end .ensures) ∙ c .before .before .before .before .before .before .before .if2 .left) (f .ensures .0),
       made-leaves (a .state) (a .count) (a .buffer .now) (a .output .now) e (f .result) (f .ensures .1 .0) (f .ensures .1 .1) (search needs) (search needs),
     )
