@@ -13,7 +13,7 @@ use Rattle.port.specs.PortContracts.{takenOf}
 use Rattle.station.specs.declared.Station.{Station}
 use Rattle.station.specs.declared.TakeResult.{TakeResult}
 use Rattle.station.specs.StationContracts.{takeOutcome}
-use Rattle.station.specs.Stations.{portCount, positionOf}
+use Rattle.station.specs.Stations.{portCount, positionOf, portFor}
 use Rattle.station.proofs.Station.new.Reads as new-reads
 use Rattle.sequence.specs.Starts.{Start}
 use Rattle.sequence.specs.Steps.{Call, take, readOf, lentOf, ticked, Outcome, takeStep, step, run, returned, labelOf}
@@ -21,7 +21,7 @@ use Rattle.sequence.specs.Targets.{one, all}
 use Rattle.sequence.specs.Sentence.{sentence}
 use Rattle.sequence.specs.Refused.{isRefusal}
 use Rattle.sequence.specs.Transcripts.{callsOf, transcript}
-use Rattle.sequence.specs.Remaining.{portFor, view, remaining, comparedOf, compared}
+use Rattle.sequence.specs.Remaining.{view, remaining, comparedOf, compared}
 use Rattle.sequence.specs.Histories.{Ensured, Made, callOf, History, stationAfter, made}
 use Rattle.reach.specs.Sound.{Reached}
 use Rattle.reach.specs.CallCases.{AllPlaced}

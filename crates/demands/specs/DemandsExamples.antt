@@ -35,7 +35,7 @@ use Rattle.station.specs.declared.RequestResult.{RequestResult}
 use Rattle.station.specs.declared.CancelResult.{CancelResult}
 use Rattle.station.specs.declared.TickResult.{TickResult}
 use Rattle.station.specs.StationContracts.{takeOutcome, requestOutcome, cancelOutcome, tickOutcome}
-use Rattle.station.specs.Stations.{portCount, positionOf}
+use Rattle.station.specs.Stations.{portCount, positionOf, portFor}
 use Rattle.station.proofs.Station.new.Reads as new-reads
 use Rattle.sequence.specs.Starts.{Start}
 use Rattle.sequence.specs.Steps.{led, Call, take, request, cancel, tick, write, taken, written, ticked, Outcome, takeStep, requestStep, cancelStep, tickStep, writeStep, step, run, returned, labelOf}
@@ -43,7 +43,7 @@ use Rattle.sequence.specs.Targets.{one, all}
 use Rattle.sequence.specs.Sentence.{sentence}
 use Rattle.sequence.specs.Refused.{isRefusal}
 use Rattle.sequence.specs.Transcripts.{callsOf, transcript}
-use Rattle.sequence.specs.Remaining.{portFor, view, remaining, comparedOf, compared}
+use Rattle.sequence.specs.Remaining.{view, remaining, comparedOf, compared}
 use Rattle.sequence.specs.Independence.{Alone}
 use Rattle.sequence.specs.Histories.{Ensured, Made, callOf, History, stationAfter, made}
 use Rattle.reach.specs.Sound.{Reached}

@@ -23,10 +23,9 @@ use Rattle.hidpp.specs.HidppTaking.{messageOf, about, carried, isError, named2,
 use Rattle.dj.specs.DjTaking.{isDeclared, radioAnswer, isMore, wpidOf, reportsOf, isPairedWith, isUp}
 use Rattle.request.specs.Requesting.{isForbidden, waitingRequest, RequestAt, refusedAt, withWaiting, requestAt}
 use Rattle.station.specs.declared.Station.{Station}
-use Rattle.station.specs.Stations.{portCount, positionOf, portAt}
+use Rattle.station.specs.Stations.{portCount, positionOf, portAt, portFor}
 use Rattle.station.specs.StationTaking.{storedAt}
 use Rattle.station.specs.StationCalls.{requestedAt, cancelledAt, tickAll}
-use Rattle.sequence.specs.Remaining.{portFor}
 use Rattle.sequence.specs.Steps.{Writer, Call, take, request, cancel, tick, write, Outcome, takeStep, requestStep, cancelStep, tickStep, writeStep, writerRule, step}
 
 -- a request with these bytes 2 and 3 waits at the port

@@ -26,7 +26,7 @@ use Rattle.hidpp.specs.HidppTaking.{messageOf, errorFits, named2, named3, error
 use Rattle.dj.specs.DjTaking.{radioRule, unpairedRule, pairedRule, linkRule, otherRule, takeDj}
 use Rattle.request.specs.Requesting.{RequestAt, waitingRequest, requestBy, requestAt}
 use Rattle.station.specs.declared.Station.{Station}
-use Rattle.station.specs.Stations.{positionOf}
+use Rattle.station.specs.Stations.{positionOf, portFor}
 use Rattle.station.specs.StationsLaws.{position-within}
 use Rattle.station.specs.StationTaking.{storedAt, takeBy, takeRule}
 use Rattle.station.specs.StationCalls.{RequestOutcome, requestedAt, requestRule, CancelOutcome, cancelledAt, cancelRule}
@@ -34,7 +34,6 @@ use Rattle.sequence.specs.Steps.{Call, take, request, cancel, tick, write, Outc
 use Rattle.reach.specs.ListsLaws.{found-passes, passes-found}
 use Rattle.sequence.specs.ReadingsLaws.{in-range, above}
 use Rattle.reach.specs.SoundLaws.{empty-fails}
-use Rattle.sequence.specs.Remaining.{portFor}
 use Rattle.reach.specs.CallCases.{Waits, Unasked, IsFailed, IsReply, IsStray, unnamed, register, reserved, late, IsPlain, notification, major1, IsEvent, software0, HidppCase, givesFailed, givesReply, givesStray, givesPlain, givesEvent, radioUnpaired, radioUndeclared, linkUnpaired, DjCase, djRefused, radioTaken, unpairs, pairedSame, pairedNew, linkSet, otherNotice, Writable, RequestRefused, is9, is10, is11, is12, RequestCase, requestRefused, accepted, CancelCase, refused13, cancelDone, StepCase, unread, listEmpty, hidppAtPort, djAtPort, request5, requestAtPort, cancel5, cancelAtPort, tickAllPorts, writeOnly, Placed, AllPlaced, ByCases, HidppAnswers, RequestAnswers, CancelAnswers}
 
 -- joined with a false test

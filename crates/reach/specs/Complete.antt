@@ -10,11 +10,11 @@ use Rattle.port.specs.declared.Port.{Port}
 use Rattle.hidpp.specs.declared.Message.{Message}
 use Rattle.hidpp.specs.HidppTaking.{isError}
 use Rattle.station.specs.declared.Station.{Station}
+use Rattle.station.specs.Stations.{portFor}
 use Rattle.station.specs.StationTaking.{takeRule}
 use Rattle.sequence.specs.Starts.{Start}
 use Rattle.sequence.specs.Steps.{Call, step, run}
 use Rattle.sequence.specs.Transcripts.{transcript}
-use Rattle.sequence.specs.Remaining.{portFor}
 use Rattle.sequence.specs.Sentence.{ByAnswer}
 use Rattle.sequence.specs.Refused.{isRefusal, Unchanged}
 use Rattle.reach.specs.Sound.{Reached}

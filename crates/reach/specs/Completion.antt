@@ -17,7 +17,7 @@ use Rattle.port.specs.Answers.{Answer, refused, reply, stray, plain, event, fai
 use Rattle.hidpp.specs.HidppTaking.{isError}
 use Rattle.dj.specs.DjTaking.{wpidOf, isPairedWith}
 use Rattle.station.specs.declared.Station.{Station}
-use Rattle.sequence.specs.Remaining.{portFor}
+use Rattle.station.specs.Stations.{portFor}
 use Rattle.reach.specs.CallCases.{Waits}
 
 -- the answer says that a request is completed by a reply, and by an error

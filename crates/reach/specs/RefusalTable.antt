@@ -15,8 +15,8 @@ use Rattle.port.specs.Answers as answers
 use Rattle.port.specs.Waiting as waiting
 use Rattle.listing.specs.Listing.{listing}
 use Rattle.station.specs.declared.Station.{Station}
+use Rattle.station.specs.Stations.{portFor}
 use Rattle.sequence.specs.Steps.{switch, getPaired, led, list, Call, take, request, cancel, write, CallAnswer, taken, written, cancelled}
-use Rattle.sequence.specs.Remaining.{portFor}
 use Rattle.reach.specs.CallCases.{Waits, DjRefused, RequestRefused}
 
 -- a report of one of the four ids and of its length

@@ -11,8 +11,7 @@ use Rattle.port.specs.declared.Request.{Request}
 use Rattle.port.specs.Records.{emptyPlace, requestIn, featureAt}
 use Rattle.port.specs.Places.{isEmpty, matches}
 use Rattle.station.specs.declared.Station.{Station}
-use Rattle.station.specs.Stations.{positionOf, portAt}
-use Rattle.sequence.specs.Remaining.{portFor}
+use Rattle.station.specs.Stations.{positionOf, portAt, portFor}
 use Rattle.reach.specs.Sound.{Reached}
 
 module _ (st : Station) (k : Reached st) where

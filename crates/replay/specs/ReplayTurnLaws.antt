@@ -1,33 +1,29 @@
 -- Laws of the loop of replay: what it writes is the rules' run over what it reads.
 use Prim.Native.Nat.{ℕ, _+_, _≤_, _<_}
 use mathlib.Core.Path.{_≡_, refl, sym, _∙_, ap, subst}
-use mathlib.Core.Bool.{Bool, true, false, cond, _&&_}
+use mathlib.Core.Bool.{Bool, true, false, cond, _&&_, true≢false, false≢true}
 use mathlib.Core.List.{List, [], _∷_, _++_, append-assoc, append-nil}
 use native.Mathlib.Omega.{arith}
-use lib.Dec.{T, leb}
+use lib.Dec.{leb}
 use lib.ListN.{length, take, drop}
 use lib.Seq.{take-all, take-length}
-use denote.Ref.{RefT, now}
+use denote.Ref.{now}
 use borrow.Author.Tests.{le-leb}
 use Rattle.report.specs.ChoicesLaws.{both}
 use Rattle.station.specs.Stations.{freshStation}
-use Rattle.replay_desk.specs.LineAnswers.{answerRoom}
 use Rattle.replay_script.specs.ReplayRuns.{Unbroken, Ran, before, runRule}
 use Rattle.replay_feed.specs.declared.State.{State}
 use Rattle.replay_feed.specs.LongLines.{longest}
-use Rattle.replay_feed.specs.Turns.{isNothing, Pending, atStart, Turned, feedRule, endRule, turnRule, refusedTurn, toCome}
+use Rattle.replay_feed.specs.Turns.{isNothing, Pending, Turned, feedRule, endRule, turnRule, refusedTurn, toCome}
 use Rattle.replay_feed.specs.TurnContracts.{heldOf, inputOf, pendingOf, turnedOf, Starts, Standing, readOffset, isReady, turnFor, Leaves}
-use Rattle.replay_feed.specs.TurnRuleLaws.{Sound, sound-start, GoesOn, feed-comes, feed-sound, feed-goes, feed-shorter, Ended, end-comes}
-use Rattle.replay_feed.specs.TurnLaws.{Ready, ready, is-ready}
+use Rattle.replay_feed.specs.TurnRuleLaws.{Sound, sound-start, feed-comes, feed-sound, feed-goes, feed-shorter, Ended, end-comes}
+use Rattle.replay_feed.specs.TurnLaws.{ready, is-ready}
 use Rattle.replay.specs.ReplayTurns.{ReadAt, Loop, done, turned, Large, FrontOf, Replays}
-
-no : {A : Type 0} → true ≡ false → A
-no e = absurd (subst T e tt)
 
 -- a list without an element
 empty : (l : List ℕ) → isNothing l ≡ true → l ≡ []
 empty [] e = refl
-empty (c ∷ l) e = no (sym e)
+empty (c ∷ l) e = absurd (false≢true e)
 
 -- what holds at each turn
 record Looping (s : State) (buffer output : List ℕ) : Type 0 where
@@ -72,7 +68,7 @@ record Stops (r : State) (input text : List ℕ) (end : State) : Type 0 where
 stopped : {r end : State} {buffer output input text : List ℕ} → Loop r buffer output input text end → r .going ≡ false → Stops r input text end
 stopped done g = record { no-input = refl; no-text = refl; same-end = refl }
 stopped (turned κ κ′ κ″ buffer read after output written offset count going at reads learnt loop) g =
-    no (sym going ∙ g)
+    absurd (true≢false (sym going ∙ g))
 
 -- a turn that is made: the last one, or one that goes on
 module _ (s r : State) (buffer b o b₁ o₁ : List ℕ) (count : ℕ) (k : Looping s buffer o) (same : pendingOf s b ≡ pendingOf s buffer) where
@@ -100,7 +96,7 @@ module _ (s r : State) (buffer b o b₁ o₁ : List ℕ) (count : ℕ) (k : Loop
               ∙ ended .answers
               ∙ ap (λ (q : Pending). toCome q []) same
               ∙ sym (ap (λ (l : List ℕ). toCome (pendingOf s buffer) (input ++ l)) (stops .no-input) ∙ ap (toCome (pendingOf s buffer)) nothing);
-          front = λ g. no (sym g ∙ ap (λ (x : State). x .going) (stops .same-end) ∙ ended .going);
+          front = λ g. absurd (true≢false (sym g ∙ ap (λ (x : State). x .going) (stops .same-end) ∙ ended .going));
           ends = λ g. ap (λ (x : State). x .whole) (stops .same-end) ∙ ended .whole;
         }
 
@@ -168,9 +164,9 @@ module _ (s r : State) (buffer b o b₁ o₁ : List ℕ) (count : ℕ) (k : Loop
 result : {s end : State} {buffer output input text : List ℕ} → Looping s buffer output → Loop s buffer output input text end → Result s buffer input text end
 result {s} {end} {buffer} k done =
     record {
-      whole = λ w. no (sym w ∙ k .whole);
+      whole = λ w. absurd (true≢false (sym w ∙ k .whole));
       front = λ g unread. record { rest = toCome (pendingOf s buffer) unread .text; so = refl };
-      ends = λ g. no (sym (k .going) ∙ g);
+      ends = λ g. absurd (true≢false (sym (k .going) ∙ g));
     }
 result {s} k (turned {r = r} κ κ′ κ″ buffer read after output written offset count going at reads learnt loop) =
     turn-result s r (now buffer) (now read) (now output) (now after) (now written) count k (subst (λ (n : ℕ). ReadAt n count (now buffer) (now read)) (at .0) reads) (learnt .0) (learnt .1) loop (λ next. result next loop)
@@ -207,7 +203,7 @@ module _ (s r : State) (b o b₁ o₁ : List ℕ) (waits : s .reading ≡ false)
       let less = feed-shorter (length b) (length o) (ready s 0 (length b) (length o) e .large) (pendingOf s b) [] (ready s 0 (length b) (length o) e .answer) (sym (ap (λ (t : Turned). t .after .reading) fed) ∙ waiting) in
       omega (arith, less, ap (λ (t : Turned). length (t .after .held)) fed)
   shorter-by false e =
-      no (sym going ∙ ap (λ (t : Turned). t .after .going) is ∙ ap (λ (x : Bool). cond x (turnRule (length b) (length o) (pendingOf s b) []) (refusedTurn (pendingOf s b)) .after .going) e)
+      absurd (true≢false (sym going ∙ ap (λ (t : Turned). t .after .going) is ∙ ap (λ (x : Bool). cond x (turnRule (length b) (length o) (pendingOf s b) []) (refusedTurn (pendingOf s b)) .after .going) e))
 
 pub replays : Replays
 replays =

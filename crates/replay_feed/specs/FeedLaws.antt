@@ -1,12 +1,12 @@
 -- Laws of the functions of a turn: what they leave in the buffers is what the rule gives.
 use Prim.Native.Nat.{ℕ, suc, _+_, _-_, _≤_, _<_}
 use mathlib.Core.Path.{_≡_, refl, sym, _∙_, ap, subst}
-use mathlib.Core.Bool.{Bool, true, false, cond, _&&_}
+use mathlib.Core.Bool.{Bool, true, false, cond, _&&_, false≢true}
 use mathlib.Core.List.{List, [], _∷_, _++_}
 use native.Mathlib.Numerals.{add-one}
 use native.Mathlib.Nat.{not-suc-le-zero}
 use native.Mathlib.Omega.{arith}
-use lib.Dec.{T, eqb}
+use lib.Dec.{eqb}
 use lib.ListN.{length, take, drop, set, length-set, length-drop}
 use lib.Seq.{length-take-le, drop-at, drop-append-le, drop-drop, take-add, take-suc-set}
 use borrow.Author.Tests.{eq-eqb, ne-eqb}
@@ -15,16 +15,13 @@ use Rattle.station.specs.declared.Station.{Station}
 use Rattle.replay_script.specs.declared.Progress.{Progress}
 use Rattle.replay_script.specs.ScriptContracts.{shareOf}
 use Rattle.text.specs.Words.{newline}
-use Rattle.replay_script.specs.Shares.{Share, shareRule}
+use Rattle.replay_script.specs.Shares.{shareRule}
 use Rattle.replay_feed.specs.declared.State.{State}
 use Rattle.replay_feed.specs.declared.input.Held.{Held}
 use Rattle.replay_feed.specs.LongLines.{heldText, heldCut}
 use Rattle.replay_feed.specs.InputContracts.{Moves}
 use Rattle.replay_feed.specs.Turns.{isNothing, fromNewline, Turned, linesWait, lineHeld, answered, passedOver, feedRule, scriptEnded, endedWith, endRule}
 use Rattle.replay_feed.specs.TurnContracts.{heldOf, inputOf, pendingOf, turnedOf, Standing}
-
-no : {A : Type 0} → false ≡ true → A
-no e = absurd (subst T (sym e) tt)
 
 pub empty-size : (t : List ℕ) {n : ℕ} → length t ≡ n → isNothing t ≡ eqb n 0
 empty-size [] {n} e = sym (eq-eqb n 0 (sym e))
@@ -102,7 +99,7 @@ module _ (st : Station) (number : ℕ) (b : List ℕ) (start size : ℕ) (ordere
         record {
           ordered = used-within used;
           within = within;
-          room = no;
+          room = λ e. absurd (false≢true e);
           filled = filled;
         }
 
@@ -288,7 +285,7 @@ module _ (s : State) (b : List ℕ) (room : ℕ) (ordered : s .start ≤ s .size
       record {
         ordered = ordered;
         within = omega (arith, free);
-        room = no;
+        room = λ e. absurd (false≢true e);
         filled = omega arith;
       }
 

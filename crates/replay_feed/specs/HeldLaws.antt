@@ -1,5 +1,5 @@
 -- Laws of what is held of a line: made shorter, it comes to the same run, whatever is read next.
-use Prim.Native.Nat.{ℕ, zero, suc, _-_, _≤_, _<_}
+use Prim.Native.Nat.{ℕ, zero, suc, _-_, _<_}
 use mathlib.Core.Path.{_≡_, refl, sym, _∙_, ap, subst}
 use mathlib.Core.Bool.{Bool, true, false, cond}
 use mathlib.Core.List.{List, [], _∷_, _++_, append-assoc, append-nil}
@@ -7,7 +7,7 @@ use native.Mathlib.Nat.{not-suc-le-zero}
 use native.Mathlib.Omega.{arith}
 use lib.Dec.{eqb, ltb}
 use lib.ListN.{length, take, drop, getD, length-append, length-drop}
-use lib.Seq.{length-take-le, take-suc, take-length, take-all}
+use lib.Seq.{length-take-le, take-suc, take-length}
 use borrow.Author.Tests.{leb-true, ltb-false}
 use Rattle.station.specs.declared.Station.{Station}
 use Rattle.replay_line.specs.LineWords.{space}

@@ -1,11 +1,11 @@
 -- Laws of a turn of the program: where it is made it is the rule's, and else nothing changes.
 use Prim.Native.Nat.{ℕ, _+_, _≤_, _<_}
-use mathlib.Core.Path.{_≡_, refl, sym, _∙_, ap, subst}
-use mathlib.Core.Bool.{Bool, true, false, cond, not, _&&_}
+use mathlib.Core.Path.{_≡_, refl, sym, _∙_, ap}
+use mathlib.Core.Bool.{Bool, true, false, cond, not, _&&_, true≢false, false≢true}
 use mathlib.Core.List.{List, []}
 use native.Mathlib.Omega.{arith}
-use lib.Dec.{T, eqb, leb, ltb}
-use lib.ListN.{length, take, drop}
+use lib.Dec.{eqb, leb, ltb}
+use lib.ListN.{length, drop}
 use borrow.Author.Tests.{leb-true, ltb-true, le-leb, lt-ltb}
 use Rattle.report.specs.ChoicesLaws.{both}
 use Rattle.station.specs.declared.Station.{Station}
@@ -38,8 +38,8 @@ pub record Ready (s : State) (count buffer output : ℕ) : Type 0 where
 free-by : (s : State) (buffer : ℕ) (t : Bool) → s .reading ≡ t → cond t (ltb (s .size) buffer) (not (s .cut)) ≡ true → (s .reading ≡ true → s .size < buffer) × (s .cut ≡ true → s .size < buffer)
 free-by s buffer true e k = (λ f. ltb-true (s .size) buffer k, λ f. ltb-true (s .size) buffer k)
 free-by s buffer false e k = (
-  λ f. absurd (subst T (sym f ∙ e) tt),
-  λ f. absurd (subst T (sym k ∙ ap not f) tt),
+  λ f. absurd (true≢false (sym f ∙ e)),
+  λ f. absurd (true≢false (sym k ∙ ap not f)),
 )
 
 pub ready : (s : State) (count buffer output : ℕ) → isReady s count buffer output ≡ true → Ready s count buffer output
@@ -61,7 +61,7 @@ ready s count buffer output e =
 
 behind-true : (a : Bool) {b : Bool} → a ≡ true → b ≡ (a && b)
 behind-true true e = refl
-behind-true false e = absurd (subst T (sym e) tt)
+behind-true false e = absurd (false≢true e)
 
 -- where all else holds, it goes by the last test
 pub ready-at : (s : State) (count buffer output : ℕ) {r : Bool} → s .going ≡ true → s .start ≤ s .size → s .size + count ≤ buffer → longest < buffer → answerRoom ≤ output → r ≡ cond (s .reading) (ltb (s .size) buffer) (not (s .cut)) → r ≡ isReady s count buffer output
@@ -74,7 +74,7 @@ ready-at s count buffer output going ordered fits large answer last =
     ∙ behind-true (s .going) going
 
 not-cut : (s : State) (t : Bool) → s .cut ≡ t → s .reading ≡ false → (s .cut ≡ true → s .reading ≡ true) → not t ≡ true
-not-cut s true e k cut = absurd (subst T (sym (cut e) ∙ k) tt)
+not-cut s true e k cut = absurd (true≢false (sym (cut e) ∙ k))
 not-cut s false e k cut = refl
 
 is-free : (s : State) (buffer : ℕ) (t : Bool) → s .reading ≡ t → (s .reading ≡ true → s .size < buffer) → (s .cut ≡ true → s .reading ≡ true) → cond t (ltb (s .size) buffer) (not (s .cut)) ≡ true
@@ -98,7 +98,7 @@ module _ (s : State) (count : ℕ) (b o : List ℕ) where
     pub refused-leaves : Leaves s count b o (refusedState s) b o
     refused-leaves =
         record {
-          standing = λ t. absurd (subst T (sym t ∙ e) tt);
+          standing = λ t. absurd (true≢false (sym t ∙ e));
           refused = λ f. (refl, (refl, refl));
           filled = omega arith;
           behind = refl;
@@ -137,7 +137,7 @@ module _ (s : State) (count : ℕ) (b o : List ℕ) where
     made-leaves r stands behind same-input same-output =
         record {
           standing = λ t. stands;
-          refused = λ f. absurd (subst T (sym e ∙ f) tt);
+          refused = λ f. absurd (true≢false (sym e ∙ f));
           filled = stands .filled;
           behind = behind;
           same-input = sym same-input;

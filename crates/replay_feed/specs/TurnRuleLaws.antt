@@ -1,24 +1,21 @@
 -- Laws of the rule of a turn: what a turn answers, and what is then still to come, are what was to come; and a script ends with its last line.
 use Prim.Native.Nat.{ℕ, suc, _+_, _≤_, _<_}
 use mathlib.Core.Path.{_≡_, refl, sym, _∙_, ap, subst}
-use mathlib.Core.Bool.{Bool, true, false, cond, _&&_}
+use mathlib.Core.Bool.{Bool, true, false, cond, _&&_, true≢false, false≢true}
 use mathlib.Core.List.{List, [], _∷_, _++_, append-assoc, append-nil}
 use native.Mathlib.Omega.{arith}
-use lib.Dec.{T, eqb, leb}
+use lib.Dec.{eqb, leb}
 use lib.ListN.{length, length-append}
 use borrow.Author.Tests.{le-leb}
 use Rattle.station.specs.declared.Station.{Station}
 use Rattle.replay_desk.specs.LineAnswers.{answerRoom}
 use Rattle.text.specs.Words.{newline}
-use Rattle.replay_script.specs.ReplayRuns.{Unbroken, none, more, nextNumber, answerTo, Ran, before, linesAfter, runLines, runRule}
+use Rattle.replay_script.specs.ReplayRuns.{Unbroken, none, more, nextNumber, answerTo, before, linesAfter, runLines, runRule}
 use Rattle.replay_script.specs.Shares.{Share, shareNone, beforeShare, shareAfter, shareRule}
 use Rattle.replay_script.specs.ReplayRunLaws.{run-read, share-runs, left-unbroken, left-shorter}
 use Rattle.replay_feed.specs.LongLines.{longest}
-use Rattle.replay_feed.specs.Turns.{isNothing, fromNewline, Pending, Turned, atStart, joined, linesWait, lineHeld, answered, passedOver, feedRule, scriptEnded, endedWith, endRule, turnRule, toCome}
+use Rattle.replay_feed.specs.Turns.{isNothing, fromNewline, Pending, Turned, atStart, linesWait, lineHeld, answered, passedOver, feedRule, scriptEnded, endedWith, endRule, toCome}
 use Rattle.replay_feed.specs.HeldLaws.{held-unbroken, held-same}
-
-no : {A : Type 0} → false ≡ true → A
-no e = absurd (subst T (sym e) tt)
 
 -- what holds between two turns: before a read, what is held is part of one line
 pub record Sound (p : Pending) : Type 0 where
@@ -31,7 +28,7 @@ pub record GoesOn (p : Pending) : Type 0 where
   pub whole : p .whole ≡ false
 
 pub sound-start : Sound atStart
-sound-start = record { part = λ e. none; cut = no }
+sound-start = record { part = λ e. none; cut = λ e. absurd (false≢true e) }
 
 -- the rest of a line that is cut, in two parts
 from-by : (c : ℕ) (t u : List ℕ) (nl e : Bool) → isNothing (cond nl (c ∷ t) (fromNewline t)) ≡ e → (isNothing (fromNewline t) ≡ e → fromNewline (t ++ u) ≡ cond e (fromNewline u) (fromNewline t ++ u)) → cond nl (c ∷ (t ++ u)) (fromNewline (t ++ u)) ≡ cond e (fromNewline u) (cond nl (c ∷ t) (fromNewline t) ++ u)
@@ -72,7 +69,7 @@ module _ (st : Station) (number size room : ℕ) (large : longest < size) (text 
       ∙ ap (before (share .text)) (left-comes unread (share .full) refl)
 
   sound-by : (t : Bool) → share .full ≡ t → Sound (afterBy t)
-  sound-by true e = record { part = no; cut = no }
+  sound-by true e = record { part = λ e. absurd (false≢true e); cut = λ e. absurd (false≢true e) }
   sound-by false e =
       record { part = λ f. held-unbroken size (share .left) (left-unbroken st number text room e) large; cut = λ f. refl }
 
@@ -88,7 +85,7 @@ module _ (st : Station) (number size room : ℕ) (large : longest < size) (text 
 
   shorter-by : (t : Bool) → share .full ≡ t → answerRoom ≤ room → afterBy t .reading ≡ false → length (afterBy t .held) < length text
   shorter-by true e fits f = left-shorter st number text room fits e
-  shorter-by false e fits f = no (sym f)
+  shorter-by false e fits f = absurd (true≢false f)
 
   answered-shorter : answerRoom ≤ room → answered size share .after .reading ≡ false → length (answered size share .after .held) < length text
   answered-shorter = shorter-by (share .full) refl
@@ -135,7 +132,7 @@ module _ (size room : ℕ) (large : longest < size) (p : Pending) (input : List 
   feed-goes = fed-goes (p .cut) (isNothing (fromNewline input))
 
   fed-shorter : answerRoom ≤ room → (t e : Bool) → fed t e .after .reading ≡ false → length (fed t e .after .held) < length (p .held) + length input
-  fed-shorter fits true true f = no (sym f)
+  fed-shorter fits true true f = absurd (true≢false f)
   fed-shorter fits true false f =
       omega (arith, answered-shorter (p .station) (p .number) size room large (p .held ++ fromNewline input) fits f, length-append (p .held) (fromNewline input), from-fewer input)
   fed-shorter fits false e f =

@@ -5,14 +5,10 @@ use mathlib.Core.List.{List, [], _∷_, map}
 use lib.ListN.{getD}
 use Rattle.port.specs.declared.Port.{Port}
 use Rattle.station.specs.declared.Station.{Station}
-use Rattle.station.specs.Stations.{positionOf, portAt}
+use Rattle.station.specs.Stations.{positionOf, portFor}
 use Rattle.sequence.specs.Steps.{CallAnswer, taken, written, cancelled, ticked, Returned}
 use Rattle.sequence.specs.Targets.{Target, none, one, all, isFor}
 use Rattle.sequence.specs.Transcripts.{Entry}
-
--- the port of a number
-abbrev pub portFor : Station → ℕ → Port
-portFor st number = portAt st (positionOf number)
 
 -- what is compared of a station for the port of a number: what is held for it
 abbrev pub View : Type 0

@@ -46,6 +46,10 @@ noPort =
 abbrev pub portAt : Station → ℕ → Port
 portAt st position = getD (st .ports) position noPort
 
+-- the port of a number
+abbrev pub portFor : Station → ℕ → Port
+portFor st number = portAt st (positionOf number)
+
 -- a station with one port changed
 unfoldable pub withPort : Station → ℕ → Port → Station
 withPort st position port = record { ports = set (st .ports) position port }
