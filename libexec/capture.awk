@@ -15,11 +15,13 @@ BEGIN {
     hex_byte = "^[0-9A-Fa-f][0-9A-Fa-f]$"
     script_word = "^(take|request|cancel|tick|switch|get-paired|led|list|read|frame|mouse|dump)$"
     usbmon_line = "^[0-9a-f]+ [0-9]+ [SCE] [CZIB][io]:[0-9:]+ "
+    dump_line = "^00000000?:? " # xxd, od and hexdump, at offset 0: no report begins so
     split(device, part, ":")
     if (device != "") device = part[1] + 0 ":" part[2] + 0
 }
 
 { sub(/\r$/, "") }
+NR == 1 && from != "binary" { sub(/^\357\273\277/, "") } # the mark that some editors put in front of UTF-8
 from == "binary" { byte(toupper($1)); fflush(); next }
 /^[ \t]*$/ { next }
 /^[ \t]*#/ { sub(/^[ \t]+/, ""); print; fflush(); next }
@@ -29,6 +31,7 @@ from == "" { unused("line", "in no known form"); next }
 from == "hid-recorder" { recorded() }
 from == "usbmon" { monitored() }
 from == "hex" { typed() }
+from == "dump" { unused("line", "of a dump with offsets; give the bytes themselves (`xxd -r` makes them of a dump by xxd)") }
 { fflush() }
 
 END {
@@ -40,6 +43,7 @@ END {
 function form_of(line) {
     if (line ~ /^[ERNIPD]: /) return "hid-recorder"
     if (line ~ usbmon_line) return "usbmon"
+    if (line ~ dump_line) return "dump"
     if (bytes_of(line) != "") return "hex"
     return ""
 }
@@ -94,6 +98,7 @@ function typed(    bytes) {
     bytes = bytes_of($0)
     if (bytes == "") { unused("line", "not bytes in hexadecimal"); return }
     if (length(bytes) > 3 * longest) { unused("line", "more than " longest " bytes"); return }
+    if (!is_report(bytes) && !odd++) first_odd = NR
     take(bytes)
 }
 
@@ -194,17 +199,22 @@ function unused(what, why, offset,    key) {
     many[key]++
 }
 
+function count(n, thing) {
+    return n + 0 " " thing (n == 1 ? "" : "s")
+}
+
 function say(text) {
     print "capture: " text >"/dev/stderr"
 }
 
 function summary(    i, key, at) {
-    say((from == "" ? "no known form" : from) ": " taken + 0 " reports from the receiver, " outgoing + 0 " calls to it, " comments + 0 " frames to it that are no call")
+    say((from == "" ? "no known form" : from) ": " count(taken, "report") " from the receiver, " count(outgoing, "call") " to it, " count(comments, "frame") " to it that " (comments == 1 ? "is" : "are") " no call")
     for (i = 1; i <= reasons; i++) {
         key = reason[i]
         at = index(key, " ")
         say("not used: " many[key] " " substr(key, 1, at - 1) (many[key] == 1 ? ", " : "s, the first ") first[key] ":" substr(key, at))
     }
+    if (odd) say("not whole: " count(odd, "report") (odd == 1 ? ", line " : ", the first line ") first_odd ": another length than the id has, or no such id, which replay refuses; a line is to be one report")
     if (device_count > 1) say("reports of " device_count " USB devices are mixed: " devices "; choose one with --device")
     if (tick > 0 && !timed) say("this form has no times: no tick was written")
     if (calls == 0) say("nothing to replay was found; `capture --help` has the forms")

@@ -1,11 +1,8 @@
 // An example to copy: takes the whole reports on standard input, of at most 65536 bytes, on one station, says what each was, and prints the port listing.
 ghost use mathlib.Core.Path.{_≡_};
-ghost use Prim.Native.Nat.{_≤_};
 ghost use Rattle.station.specs.StationTaking.{takeRule};
 use frame::Written;
-use libc::STDIN_FILENO;
 use libc::STDOUT_FILENO;
-use port::answer::Notice;
 use port::answer::Taken;
 use station::Station;
 
@@ -13,16 +10,6 @@ fn say(word: &[u8], number: u64) {
     io::write_all(STDOUT_FILENO, word);
     io::print_decimal(STDOUT_FILENO, number);
     io::write_all(STDOUT_FILENO, b"\n");
-}
-
-fn say_notice(notice: Notice) {
-    match notice {
-        Notice::Paired { port, .. } => say(b"paired: device ", port.0 as u64),
-        Notice::Unpaired { port, .. } => say(b"unpaired: device ", port.0 as u64),
-        Notice::Link { port, .. } => say(b"link: device ", port.0 as u64),
-        Notice::Other { port, .. } => say(b"notification of port ", port.0 as u64),
-        Notice::EmptyList => say(b"paired devices: ", 0),
-    }
 }
 
 fn say_answer(answer: Taken) {
@@ -34,7 +21,7 @@ fn say_answer(answer: Taken) {
         Taken::Event(about) => say(b"event of port ", about.port.0 as u64),
         Taken::Failed { code, .. } => say(b"error ", code as u64),
         Taken::Radio { kind, .. } => say(b"radio report of type ", kind as u64),
-        Taken::Noticed(notice) => say_notice(notice),
+        Taken::Noticed(_) => say(b"notification of port ", 255),
     }
 }
 
@@ -48,50 +35,30 @@ fn take_report(station: Station, bytes: &[u8]) -> Station
     taken.station
 }
 
-// The length of the report that begins with this id, or 0 where no report does, or where less than that is left.
-fn whole_length(id: u8, left: usize) -> usize
-    ensures { λ r. ⌜ r ≤ left ⌝ }
-{
-    let length = report::length_of(id) as usize;
-    if length > left {
-        return 0;
-    }
-    length
-}
-
-fn take_all(fresh: Station, bytes: &[u8]) -> Station {
-    let mut station = fresh;
+fn take_all(mut station: Station, bytes: &[u8]) -> Station {
     let mut at = 0;
     while at < bytes.len() {
         let left = bytes.len() - at;
-        let length = whole_length(bytes[at], left);
-        if length == 0 {
+        let length = report::length_of(bytes[at]) as usize;
+        if length == 0 || length > left {
             say(b"bytes that are no report: ", left as u64);
             return station;
         }
-        let end = at + length;
-        station = take_report(station, &bytes[at..end]);
-        at = end;
+        station = take_report(station, &bytes[at..at + length]);
+        at += length;
     }
     station
 }
 
-fn print_listing(station: Station) {
+fn main() {
+    let mut bytes = io::large_buffer();
+    let count = io::read_full(libc::STDIN_FILENO, &mut bytes);
+    let station = take_all(Station::new(), &bytes[..count]);
     let mut text = io::buffer();
     let Written::Bytes(length) = station.list(&mut text, 0) else {
         return;
     };
-    print(&text, length);
-}
-
-fn print(text: &[u8], length: usize) {
     if length <= text.len() {
         io::write_all(STDOUT_FILENO, &text[..length]);
     }
-}
-
-fn main() {
-    let mut bytes = io::large_buffer();
-    let count = io::read_full(STDIN_FILENO, &mut bytes);
-    print_listing(take_all(Station::new(), &bytes[..count]));
 }
