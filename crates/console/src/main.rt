@@ -3,6 +3,7 @@ ghost use mathlib.Core.Path.{_≡_};
 ghost use Rattle.station.specs.StationTaking.{takeRule};
 use frame::Written;
 use libc::STDOUT_FILENO;
+use port::answer::Notice;
 use port::answer::Taken;
 use station::Station;
 
@@ -21,7 +22,13 @@ fn say_answer(answer: Taken) {
         Taken::Event(about) => say(b"event of port ", about.port.0 as u64),
         Taken::Failed { code, .. } => say(b"error ", code as u64),
         Taken::Radio { kind, .. } => say(b"radio report of type ", kind as u64),
-        Taken::Noticed(_) => say(b"notification of port ", 255),
+        Taken::Noticed(notice) => {
+            if let Notice::Paired { port, .. } = notice {
+                say(b"paired: device ", port.0 as u64);
+            } else {
+                io::write_all(STDOUT_FILENO, b"another notification\n");
+            }
+        }
     }
 }
 
@@ -55,10 +62,9 @@ fn main() {
     let count = io::read_full(libc::STDIN_FILENO, &mut bytes);
     let station = take_all(Station::new(), &bytes[..count]);
     let mut text = io::buffer();
-    let Written::Bytes(length) = station.list(&mut text, 0) else {
-        return;
-    };
-    if length <= text.len() {
-        io::write_all(STDOUT_FILENO, &text[..length]);
+    if let Written::Bytes(length) = station.list(&mut text, 0) {
+        if length <= text.len() {
+            io::write_all(STDOUT_FILENO, &text[..length]);
+        }
     }
 }
