@@ -42,12 +42,12 @@ use Rattle.demands.specs.WithoutStation.{WithoutStation}
 pub record Demands : Type 0 where
   -- Demand 1. Any bytes, any length, any order of calls: every call ends with an answer. That its function returns is what the prover checks of every function; its outcome is the one that the rules give, on any station
   pub answers : (st : Station) (c : Call) (o : Outcome) → Ensured st c o → o ≡ step st c
-  -- Each call refuses bad input itself: with each number exactly when that number's row of the table holds, on any station whose ports have their four places, as the program's type has it
+  -- Each call refuses bad input itself: with each number exactly when a row of the table with that number holds, on any station whose ports have their four places, as the program's type has it
   pub refuses : (st : Station) → AllPlaced st → (c : Call) (o : Outcome) → Ensured st c o → ByTheTable st c (o .answer)
   -- A refused call leaves the station, the bytes lent to be read and the buffer lent to be written as they were
   pub station-kept : (st : Station) (c : Call) (o : Outcome) → Ensured st c o → isRefusal (o .answer) ≡ true → o .station ≡ st
   pub bytes-kept : (st : Station) (c : Call) (o : Outcome) → Ensured st c o → isRefusal (o .answer) ≡ true → (o .read ≡ readOf c) × (o .lent ≡ lentOf c)
-  -- Demand 2. Without a station, reports are read and frames are written as the rules say
+  -- Demand 2. Without a station, reports are read, frames are written and movements are found as the rules say
   pub without-station : WithoutStation
   -- A reply completes a request exactly when one waits on the device that byte 1 names with the same bytes 2 and 3
   pub replies : (st : Station) → Reached st → (bytes : List ℕ) (r : TakeResult) → Ensured st (take bytes) (takeStep bytes (takeOutcome r)) → (isReply (takenOf (r .answer)) ≡ true) ↔ Replies st bytes
@@ -55,6 +55,7 @@ pub record Demands : Type 0 where
   pub errors : (st : Station) → Reached st → (bytes : List ℕ) (r : TakeResult) → Ensured st (take bytes) (takeStep bytes (takeOutcome r)) → (isFailure (takenOf (r .answer)) ≡ true) ↔ Fails st bytes
   -- Each ends that one and no other: of every port, the place of the request that it answers is emptied, and every other place stays. DJ reports complete none, and drop all of a port's requests exactly at 0x40, and at 0x41 with another WPID or for a device that is not paired
   pub ends : (st : Station) → Reached st → (bytes : List ℕ) (r : TakeResult) → Ensured st (take bytes) (takeStep bytes (takeOutcome r)) → (n : ℕ) → isPort n ≡ true → (place : ℕ) → requestIn (portFor (r .station) n .places) place ≡ cond (endsIn st bytes n place) emptyPlace (requestIn (portFor st n .places) place)
+  -- A HID++ report ends at most one request
   pub at-most-one : (st : Station) → Reached st → (bytes : List ℕ) → isHidppRead (readRule bytes) ≡ true → (n m i j : ℕ) → isPort n ≡ true → isPort m ≡ true → endsIn st bytes n i ≡ true → endsIn st bytes m j ≡ true → (n ≡ m) × (i ≡ j)
   -- Records change only as document 01 lists: of every port, by every call, a field that is not listed stays
   pub changes : (st : Station) → Reached st → (c : Call) (o : Outcome) → Ensured st c o → (n : ℕ) → isPort n ≡ true → ChangesListed n c (o .answer) (portFor st n) (portFor (o .station) n)
@@ -66,12 +67,13 @@ pub record Demands : Type 0 where
   -- Every answer and the lent bytes after every call are those that the rules give, and so is the station at the end
   pub every-answer : (st : Station) (ms : List Made) → History st ms → made st ms ≡ transcript st (map callOf ms)
   pub final-station : (st : Station) (ms : List Made) → History st ms → stationAfter st ms ≡ run st (map callOf ms)
-  -- For each port, strike out every call for another port or for none, and keep the ticks: which calls these are, document 01 says by the answer
+  -- For each port, strike out every call for another port or for none, and keep the ticks: which port a call is for is what document 01 says of its answer
   pub struck : (st : Station) (c : Call) (o : Outcome) → Ensured st c o → labelOf st c ≡ sentence c (o .answer)
   -- What remains, run from the same start: at its end the port holds exactly what it holds after the full run
   pub holds : (n : ℕ) → isPort n ≡ true → (st : Station) → Start st → (ms ns : List Made) → History st ms → History st ns → map callOf ns ≡ callsOf (remaining n (made st ms)) → view n (stationAfter st ms) ≡ view n (stationAfter st ns)
   -- Each call that remains gives the same answer and leaves the same lent bytes; of a tick's answer, that port's count is compared
   pub returns : (n : ℕ) → isPort n ≡ true → (st : Station) → Start st → (ms ns : List Made) → History st ms → History st ns → map callOf ns ≡ callsOf (remaining n (made st ms)) → compared n (remaining n (made st ms)) ≡ compared n (made st ns)
+  -- What is compared: of a call for one port its answer and all lent bytes, of a tick that port's count
   pub compares-all : (n number : ℕ) (o q : Outcome) → comparedOf n (one number) (returned o) ≡ comparedOf n (one number) (returned q) → (o .answer ≡ q .answer) × ((o .read ≡ q .read) × (o .lent ≡ q .lent))
   pub compares-count : (n : ℕ) (o q : Outcome) (xs ys : List ℕ) → o .answer ≡ ticked xs → q .answer ≡ ticked ys → comparedOf n all (returned o) ≡ comparedOf n all (returned q) → getD xs (positionOf n) 0 ≡ getD ys (positionOf n) 0
   -- So any two orders that keep each port's own calls and the ticks in sequence end in the same station
@@ -80,7 +82,7 @@ pub record Demands : Type 0 where
   pub cut : (st : Station) (ms ns : List Made) → History st (ms ++ ns) → History st ms × History (stationAfter st ms) ns
   -- Over every history and for each port: requests accepted are those answered by reply, by error, expired, cancelled, dropped, and those that wait, counted from the answers given
   pub accounted : (n : ℕ) → isPort n ≡ true → (st : Station) → Start st → (ms : List Made) → History st ms → Accounted n (made st ms) (portFor (stationAfter st ms) n)
-  -- A run of encoded calls by the program, `encoded::run_encoded`: where the bytes are calls and there is room for their answers, the final station, every lent byte and every row are those of the rules' run; and the rows read back as the answers
+  -- A run of encoded calls by the program, `encoded::run_encoded`: where the bytes are calls and there is room for their answers, the final station, every lent byte and every row, which is one answer in ten bytes, are those of the rules' run; and where the station has seven ports and all that is lent are bytes, the rows read back as the answers
   pub runs : (κ κ′ κ″ : List ℕ) (st : Station) (encoded arena arenaAfter answers answersAfter : RefT (List ℕ)) (r : RunResult) → run-reads.Learnt (κ, (κ′, (κ″, tt))) (st, (encoded, (arena, (answers, tt)))) r (st, (encoded, (arenaAfter, (answersAfter, tt)))) → (cs : List Call) → decode (now encoded) (now arena) ≡ calls cs → rowsSize cs ≤ length (now answers) → outcomeOf r (now arenaAfter) (now answersAfter) ≡ ran st cs (now answers)
   pub rows : (κ κ′ κ″ : List ℕ) (st : Station) (encoded arena arenaAfter answers answersAfter : RefT (List ℕ)) (r : RunResult) → run-reads.Learnt (κ, (κ′, (κ″, tt))) (st, (encoded, (arena, (answers, tt)))) r (st, (encoded, (arenaAfter, (answersAfter, tt)))) → length (st .ports) ≡ portCount → (cs : List Call) → decode (now encoded) (now arena) ≡ calls cs → rowsSize cs ≤ length (now answers) → Bytes (now encoded) → Bytes (now arena) → ReadsBack st cs (now answersAfter)
   -- What is gathered of the rules alone, of every station and of every list of calls: their cases, their refusals, what they end and change; and each port by itself, any two orders, and which calls have an encoding

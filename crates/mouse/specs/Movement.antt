@@ -1,4 +1,4 @@
--- Document 01, "Taking a DJ report": the mouse payload; and refusal 3, where it isn't 7 bytes.
+-- Document 01, "Taking a DJ report": the mouse payload; and refusal 3, where it is not 7 bytes.
 use Prim.Native.Nat.{ℕ, _+_, _-_, _*_, _/_, _%_, _^_}
 use mathlib.Core.List.{List}
 use mathlib.Core.Bool.{cond, not}

@@ -38,7 +38,7 @@ knownFeatures = featureSet ∷ deviceInformation ∷ deviceName ∷ batteryStatu
 abbrev pub featureCount : ℕ
 featureCount = 5
 
--- the position of a feature in a list; the length of the list where it has none
+-- where a feature is in a list; the length of the list where it is not there
 abbrev pub slotIn : List ℕ → ℕ → ℕ
 slotIn [] feature = 0
 slotIn (x ∷ xs) feature = cond (eqb feature x) 0 (suc (slotIn xs feature))

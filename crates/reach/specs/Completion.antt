@@ -48,7 +48,7 @@ isHidppRead (reading.hidpp r) = true
 isHidppRead (reading.dj r) = false
 isHidppRead (reading.emptyList r) = false
 
--- an error of kind 0x8F fits every request, one of kind 0xFF those with byte 2 below 0x40; the bytes that it names are at offsets 3 and 4
+-- an error of kind 0x8F fits every request, one of kind 0xFF those with byte 2 below 0x40; the two bytes that it names are its bytes 3 and 4
 abbrev pub isFitting : List ℕ → Bool
 isFitting bytes = eqb (byte bytes 2) 0x8F || isFeature (byte bytes 3)
 

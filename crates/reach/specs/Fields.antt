@@ -81,7 +81,7 @@ answerLists p (written a) f = is places f
 answerLists p (cancelled a) f = is places f
 answerLists p (ticked counts) f = is places f
 
--- the port that a call names; a tick lowers counts on all of them, and a writer of a frame alone, or of the listing, changes nothing
+-- the port that a call names; a tick lowers the ticks left on all of them, and a writer of a frame alone, or of the listing, changes nothing
 abbrev pub touches : ℕ → Call → Bool
 touches n (take bytes) = eqb (byte bytes 1) n
 touches n (request device byte2 byte3 ticks params offset lent) = eqb device n

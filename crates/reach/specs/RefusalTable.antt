@@ -1,4 +1,4 @@
--- Document 01, "Refusal numbers": the table, row by row. A call is refused with a number exactly when its row holds and, within the call, no row above it does.
+-- Document 01, "Refusal numbers": the table, row by row, each row with what the checks before it leave: a call is refused with a number exactly when one of its rows with that number holds.
 use Prim.Native.Nat.{ℕ, _<_}
 use mathlib.Core.Path.{_≡_}
 use mathlib.Core.Logic.{_↔_}

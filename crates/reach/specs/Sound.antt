@@ -45,7 +45,7 @@ pub record SoundRecord (position : ℕ) (paired : Bool) (features : List Feature
 abbrev pub SoundPort : ℕ → Port → Type 0
 SoundPort position p = SoundRecord position (p .paired) (p .features) (p .places)
 
--- seven ports
+-- seven ports, and each of them sound
 pub record Reached (st : Station) : Type 0 where
   pub all : length (st .ports) ≡ portCount
   pub each : (position : ℕ) → position < portCount → SoundPort position (portAt st position)

@@ -44,7 +44,7 @@ pub record Standing (s : State) (buffer output : List ℕ) : Type 0 where
 abbrev pub readOffset : State → (buffer : ℕ) → ℕ
 readOffset s buffer = cond (s .reading && leb (s .size) buffer) (s .size) buffer
 
--- a turn is made where another is to follow, what is held and what was read are in the input buffer, which is larger than the longest line that is held, and the output buffer has room for any answer
+-- a turn is made where another is to follow, what is held and what was read are in the input buffer, which is larger than what a long line is cut to, and the output buffer has room for any answer
 abbrev pub isReady : State → (count buffer output : ℕ) → Bool
 isReady s count buffer output =
     s .going && (leb (s .start) (s .size) && (leb (s .size + count) buffer && (ltb longest buffer && (leb answerRoom output && cond (s .reading) (ltb (s .size) buffer) (not (s .cut))))))

@@ -19,7 +19,7 @@ unfoldable pub fromNewline : List ℕ → List ℕ
 fromNewline [] = []
 fromNewline (c ∷ text) = cond (eqb c newline) (c ∷ text) (fromNewline text)
 
--- between two turns: the station and the number of lines so far; what is read and not yet answered; whether the rest of its line is passed over; whether more is to be read, or whole lines wait for room; whether another turn is to follow; and whether the whole script is answered
+-- between two turns: the station and the number of lines so far; what is read and not yet answered; whether the rest of its line is passed over; whether more is to be read; whether another turn is to follow, for which whole lines wait where nothing more is to be read; and whether the whole script is answered
 pub record Pending : Type 0 where
   pub station : Station
   pub number : ℕ
@@ -93,6 +93,6 @@ abbrev pub refusedTurn : Pending → Turned
 refusedTurn p =
     record { text = []; after = record { station = p .station; number = p .number; held = p .held; cut = p .cut; reading = p .reading; going = false; whole = false } }
 
--- what is still to come where this is all that is left to read: the run over it
+-- what is still to come where this is all that is left to read: the run over what is held and this
 unfoldable pub toCome : Pending → (unread : List ℕ) → Ran
 toCome p unread = runRule (p .station) (p .number) (joined p unread)

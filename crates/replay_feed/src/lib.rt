@@ -10,7 +10,7 @@ use station::Station;
 mod feed;
 mod input;
 
-// The station and the number of lines so far. The bytes of the input buffer from `start` up to `size` are read and not yet answered; where they are cut, what follows up to the end of their line is passed over. More is to be read where `reading`, or whole lines wait for room. Another turn is to follow where `going`; the whole script is answered where `whole`. The first `filled` bytes of the output buffer are answers.
+// The station and the number of lines so far. The bytes of the input buffer from `start` up to `size` are read and not yet answered; where they are cut, what follows up to the end of their line is passed over. Another turn is to follow where `going`: then more is to be read where `reading`, and else whole lines wait for room; the whole script is answered where `whole`. The first `filled` bytes of the output buffer are answers.
 pub struct State {
     pub station: Station,
     pub number: usize,

@@ -1,10 +1,8 @@
--- Document 01, "Sequences of calls", of the program: histories of calls with the outcomes that the program gave, each call made on the station that the call before it handed back.
+-- Document 01, "Sequences of calls", of the program: histories of calls with the outcomes that the program gave, each call made on the station that the call before it handed back or left.
 use Prim.Native.Nat.{ℕ}
 use mathlib.Core.Path.{_≡_}
-use mathlib.Core.Bool.{true}
 use mathlib.Core.List.{List, [], _∷_, map}
 use denote.Ref.{RefT, now}
-use Rattle.report.specs.Ports.{isPort}
 use Rattle.report.specs.declared.Device.{Device}
 use Rattle.report.specs.declared.FeatureIndex.{FeatureIndex}
 use Rattle.frame.specs.declared.Written.{Written}
@@ -24,8 +22,7 @@ use Rattle.station.proofs.Station.get_paired.Reads as get-paired-reads
 use Rattle.station.proofs.Station.led.Reads as led-reads
 use Rattle.station.proofs.Station.list.Reads as list-reads
 use Rattle.sequence.specs.Steps.{switch, getPaired, led, list, Call, take, request, cancel, tick, write, Outcome, takeStep, requestStep, cancelStep, tickStep, writeStep, run}
-use Rattle.sequence.specs.Transcripts.{Entry, entry, transcript, callsOf}
-use Rattle.sequence.specs.Remaining.{view, remaining, compared}
+use Rattle.sequence.specs.Transcripts.{Entry, entry, transcript}
 
 -- bytes that are lent: a reference r, whose bytes are `now r`
 abbrev pub LentBytes : Type 0
@@ -69,13 +66,3 @@ made st (m ∷ ms) = entry st (m .call) (m .outcome) ∷ made (m .outcome .stati
 pub record ByTheRules (st : Station) (ms : List Made) : Type 0 where
   pub station : stationAfter st ms ≡ run st (map callOf ms)
   pub entries : made st ms ≡ transcript st (map callOf ms)
-
--- the second history makes the calls that remain of the first for the port of a number
-pub record AloneInProgram (n : ℕ) (st : Station) (ms ns : List Made) : Type 0 where
-  pub holds : view n (stationAfter st ms) ≡ view n (stationAfter st ns)
-  pub returns : compared n (remaining n (made st ms)) ≡ compared n (made st ns)
-
--- striking out leaves, for each port, the same calls in the same order
-abbrev pub SameOrdersInProgram : Station → List Made → List Made → Type 0
-SameOrdersInProgram st ms ns =
-    (n : ℕ) → isPort n ≡ true → callsOf (remaining n (made st ms)) ≡ callsOf (remaining n (made st ns))

@@ -11,7 +11,7 @@ use Rattle.sequence.specs.Transcripts.{Entry, transcript, callsOf}
 use Rattle.sequence.specs.Remaining.{view, remaining, compared}
 use Rattle.sequence.specs.Independence.{SameOrders}
 use Rattle.sequence.specs.IndependenceLaws as rules
-use Rattle.sequence.specs.Histories.{Made, callOf, Ensured, byTake, byRequest, byCancel, byTick, bySwitch, byGetPaired, byLed, byList, History, stationAfter, made, ByTheRules, AloneInProgram, SameOrdersInProgram}
+use Rattle.sequence.specs.Histories.{Made, callOf, Ensured, byTake, byRequest, byCancel, byTick, bySwitch, byGetPaired, byLed, byList, History, stationAfter, made, ByTheRules}
 
 -- what the program's function ensures is the rules' step
 pub met : {st : Station} {c : Call} {o : Outcome} → Ensured st c o → o ≡ step st c
@@ -32,6 +32,16 @@ history st (m ∷ ms) k =
     let e : m .outcome ≡ step st (m .call) = met (k .0) in
     let rest = history (m .outcome .station) ms (k .1) in
     record { station = cc (e, rest .station); entries = cc (e, rest .entries) }
+
+-- the port of a number ends two histories alike, and its calls return the same
+pub record AloneInProgram (n : ℕ) (st : Station) (ms ns : List Made) : Type 0 where
+  pub holds : view n (stationAfter st ms) ≡ view n (stationAfter st ns)
+  pub returns : compared n (remaining n (made st ms)) ≡ compared n (made st ns)
+
+-- striking out leaves, for each port, the same calls in the same order
+abbrev pub SameOrdersInProgram : Station → List Made → List Made → Type 0
+SameOrdersInProgram st ms ns =
+    (n : ℕ) → isPort n ≡ true → callsOf (remaining n (made st ms)) ≡ callsOf (remaining n (made st ns))
 
 pub alone : (n : ℕ) → isPort n ≡ true → (st : Station) → Start st → (ms ns : List Made) → History st ms → History st ns → map callOf ns ≡ callsOf (remaining n (made st ms)) → AloneInProgram n st ms ns
 alone n h st begins ms ns k l e =

@@ -102,7 +102,7 @@ lentOf c = callRow c .lent
 unfoldable pub target : Call → Target
 target c = callRow c .target
 
--- the label of a call in a run: which port it is for, read off the station that it is made on and the call. The call alone decides
+-- the label of a call in a run: which port it is for. It may go by the station that the call is made on; today the call alone decides
 abbrev pub labelOf : Station → Call → Target
 labelOf st c = target c
 
