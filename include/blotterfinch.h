@@ -44,12 +44,12 @@ enum { BLOTTERFINCH_DEVICES = 6, BLOTTERFINCH_RECEIVER = 255 };
 /* Byte 2 of a DJ report: below 0x40 what a device sent by radio, below 0x80 a notification of the receiver,
  * from 0x80 on a command to it. Other types exist. */
 enum blotterfinch_dj_type {
-    BLOTTERFINCH_KEYBOARD = 0x01,
-    BLOTTERFINCH_MOUSE = 0x02,
-    BLOTTERFINCH_CONSUMER_CONTROL = 0x03,
-    BLOTTERFINCH_SYSTEM_CONTROL = 0x04,
-    BLOTTERFINCH_MEDIA_CENTER = 0x08,
-    BLOTTERFINCH_KEYBOARD_LEDS = 0x0E, /* goes to the device only */
+    BLOTTERFINCH_KEYBOARD = 0x01,         /* payload: the first 7 bytes at its start */
+    BLOTTERFINCH_MOUSE = 0x02,            /* 7 */
+    BLOTTERFINCH_CONSUMER_CONTROL = 0x03, /* 4 */
+    BLOTTERFINCH_SYSTEM_CONTROL = 0x04,   /* 1 */
+    BLOTTERFINCH_MEDIA_CENTER = 0x08,     /* 1 */
+    BLOTTERFINCH_KEYBOARD_LEDS = 0x0E,    /* only the host sends it */
     BLOTTERFINCH_DEVICE_UNPAIRED = 0x40,
     BLOTTERFINCH_DEVICE_PAIRED = 0x41,
     BLOTTERFINCH_CONNECTION_STATUS = 0x42,
@@ -58,7 +58,8 @@ enum blotterfinch_dj_type {
     BLOTTERFINCH_GET_PAIRED = 0x81
 };
 
-/* Byte 2 of a HID++ report or request, where it is no feature index (0x00 to 0x3F). */
+/* Byte 2 of a HID++ report or request, where it is no feature index (0x00 to 0x3F). An error has the
+ * failed request's bytes 2 and 3 in its bytes 3 and 4, and the code in byte 5. */
 enum blotterfinch_sub_id {
     BLOTTERFINCH_SET_REGISTER = 0x80,
     BLOTTERFINCH_GET_REGISTER = 0x81,
@@ -71,8 +72,8 @@ enum blotterfinch_sub_id {
 /* The bytes that blotterfinch_mouse takes. */
 enum { BLOTTERFINCH_MOUSE_PAYLOAD = 7 };
 
-/* Why a call was refused: the numbers of document 01, "Refusal numbers", without those that need a
- * station. Where several apply, the one that comes first in the function's comment is given. */
+/* Why a call was refused. The numbers that are left out, 7, 8 and 11 to 13, need a station, which this
+ * library does not have. Where several apply, the one that comes first in the function's comment is given. */
 enum blotterfinch_refusal {
     BLOTTERFINCH_ACCEPTED = 0,
     /* The report has no byte. */
@@ -90,7 +91,8 @@ enum blotterfinch_refusal {
     BLOTTERFINCH_RESERVED_SUB_ID = 6,
     /* The request has neither 3 nor 16 parameters; or byte 2 is neither 0x00 to 0x3F nor 0x80 to 0x83;
      * or it is 0x82 in a short frame, or 0x80, 0x81 or 0x83 in a long one; or it is below 0x40 and the
-     * software id is 0; or it asks GetFeature (byte 2 and function 0) for feature 0x0000. */
+     * software id, the low half of byte 3, is 0; or byte 2 is 0x00 and byte 3 below 0x10 (GetFeature) and
+     * the first two parameters, the feature, are 0. */
     BLOTTERFINCH_FORBIDDEN = 9,
     /* The frame does not fit between offset and the buffer's end, or offset is past the end. */
     BLOTTERFINCH_NO_ROOM = 10,
@@ -104,7 +106,8 @@ typedef struct blotterfinch_report {
     uint8_t id;
     uint8_t device;
     uint8_t byte2;  /* HID++: feature index or sub id. DJ: type */
-    uint8_t byte3;  /* HID++: function * 16 + software id, or a register. DJ: first parameter */
+    uint8_t byte3;  /* HID++: function * 16 + software id, or a register; in an error byte 2 of the
+                     * request that failed; in a notice its first value. DJ: first parameter */
     uint8_t start;  /* offset of the first parameter in the report: HID++ 4, DJ 3 */
     uint8_t length; /* all bytes from start to the report's end: HID++ 3 or 16; DJ 12 or 29, padding included */
 } blotterfinch_report;
@@ -126,7 +129,9 @@ typedef struct blotterfinch_movement {
 } blotterfinch_movement;
 
 /* The length of a report or frame by its byte 0, the id: 7, 20, 15 or 32; 0 where there is no such id. A
- * stream of whole reports is cut by it: look at the first byte, take so many bytes, go on after them. */
+ * stream of whole reports is cut by it: look at the first byte, take so many bytes, go on after them. Where
+ * fewer are left, keep them for the next read. Where there is no such id the stream has lost its place, and
+ * nothing in it says where a report begins. A read of a hidraw device gives one whole report. */
 static inline size_t blotterfinch_report_length(uint8_t id)
 {
     switch (id) {
@@ -138,7 +143,8 @@ static inline size_t blotterfinch_report_length(uint8_t id)
     }
 }
 
-/* A refusal in words, in English and in lower case; for any other number, that there is no such refusal.
+/* A refusal in words, in English and in lower case; for any other number, 7, 8 and 11 to 13 among them,
+ * that there is no such refusal.
  * The text is a constant: it is not to be freed. */
 static inline const char *blotterfinch_refusal_text(uint8_t refusal)
 {
@@ -161,14 +167,16 @@ static inline const char *blotterfinch_refusal_text(uint8_t refusal)
  * bytes has bytes_length bytes; the call writes none; a refusal changes nothing. */
 blotterfinch_report blotterfinch_read(const uint8_t *bytes, size_t bytes_length);
 
-/* Writes a HID++ request, short with 3 parameters, long with 16. Refusals: 5, 9, 10.
+/* Writes a HID++ request to device 1 to 6 or BLOTTERFINCH_RECEIVER, short with 3 parameters, long with 16;
+ * byte2 and byte3 are as in a report. Refusals: 5, 9, 10.
  * parameters has parameters_length bytes; the call writes none; a refusal changes nothing.
  * buffer has buffer_length bytes; the call writes 7 or 20 from offset on; a refusal changes nothing. */
 blotterfinch_written blotterfinch_request_frame(uint8_t device, uint8_t byte2, uint8_t byte3,
                                                 const uint8_t *parameters, size_t parameters_length,
                                                 uint8_t *buffer, size_t buffer_length, size_t offset);
 
-/* Writes a DJ Switch and Keep-Alive command, timeout in seconds. Refusals: 14, 10.
+/* Writes a DJ Switch and Keep-Alive command, timeout in seconds; bit 0 of device_bits is device 1, bit 5
+ * device 6. Refusals: 14, 10.
  * buffer has buffer_length bytes; the call writes 15 from offset on; a refusal changes nothing. */
 blotterfinch_written blotterfinch_switch_frame(uint8_t device_bits, uint8_t timeout,
                                                uint8_t *buffer, size_t buffer_length, size_t offset);
@@ -177,7 +185,7 @@ blotterfinch_written blotterfinch_switch_frame(uint8_t device_bits, uint8_t time
  * buffer has buffer_length bytes; the call writes 15 from offset on; a refusal changes nothing. */
 blotterfinch_written blotterfinch_get_paired_frame(uint8_t *buffer, size_t buffer_length, size_t offset);
 
-/* Writes a DJ Keyboard LEDs report. Refusals: 5, 10.
+/* Writes a DJ Keyboard LEDs report to device 1 to 6; leds goes out as it is. Refusals: 5, 10.
  * buffer has buffer_length bytes; the call writes 15 from offset on; a refusal changes nothing. */
 blotterfinch_written blotterfinch_led_frame(uint8_t device, uint8_t leds,
                                             uint8_t *buffer, size_t buffer_length, size_t offset);

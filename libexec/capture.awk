@@ -178,10 +178,21 @@ function sent(bytes,    b, n, rest) {
     outgoing++
 }
 
-# Time, as a comment, and the ticks since the first time.
-function passed(time) {
-    if (!timed) { timed = 1; began = time }
-    while (tick > 0 && began + (made + 1) * tick <= time + 0.0000005) { print "tick"; made++ }
+# Time, as a comment, and the ticks since the first time. usbmon counts seconds up to 4096 and begins again; a time that
+# goes back by less is no time that passed.
+function passed(time,    step) {
+    if (timed) {
+        step = time - before
+        if (from == "usbmon" && step < -2048) step += 4096
+        if (step < 0) {
+            if (!backward) backward = NR
+            step = 0
+        }
+        clock += step
+    }
+    timed = 1
+    before = time
+    while (tick > 0 && (made + 1) * tick <= clock + 0.0000005) { print "tick"; made++ }
     print "# " time
 }
 
@@ -217,5 +228,6 @@ function summary(    i, key, at) {
     if (odd) say("not whole: " count(odd, "report") (odd == 1 ? ", line " : ", the first line ") first_odd ": another length than the id has, or no such id, which replay refuses; a line is to be one report")
     if (device_count > 1) say("reports of " device_count " USB devices are mixed: " devices "; choose one with --device")
     if (tick > 0 && !timed) say("this form has no times: no tick was written")
+    if (tick > 0 && backward) say("the time goes back, first at line " backward ": no tick was written for such a step")
     if (calls == 0) say("nothing to replay was found; `capture --help` has the forms")
 }
