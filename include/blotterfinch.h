@@ -175,8 +175,9 @@ blotterfinch_written blotterfinch_request_frame(uint8_t device, uint8_t byte2, u
                                                 const uint8_t *parameters, size_t parameters_length,
                                                 uint8_t *buffer, size_t buffer_length, size_t offset);
 
-/* Writes a DJ Switch and Keep-Alive command, timeout in seconds; bit 0 of device_bits is device 1, bit 5
- * device 6. Refusals: 14, 10.
+/* Writes a DJ Switch and Keep-Alive command. Bit 0 of device_bits is device 1, bit 5 device 6: a device whose
+ * bit is set sends DJ reports from then on, any other plain HID ones. The command is to be repeated within
+ * timeout seconds, or the receiver switches all devices back; 0 asks for no repetition. Refusals: 14, 10.
  * buffer has buffer_length bytes; the call writes 15 from offset on; a refusal changes nothing. */
 blotterfinch_written blotterfinch_switch_frame(uint8_t device_bits, uint8_t timeout,
                                                uint8_t *buffer, size_t buffer_length, size_t offset);
