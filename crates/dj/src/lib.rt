@@ -2,7 +2,6 @@
 ghost use mathlib.Core.Path.{_≡_};
 ghost use Rattle.report.specs.Sizes.{bit};
 ghost use Rattle.report.specs.ReportContracts.{djOf};
-ghost use Rattle.port.specs.Records.{madeFresh, withPairing};
 ghost use Rattle.port.specs.PortContracts.{takenOf, resultOf};
 ghost use Rattle.dj.specs.DjContracts.{isAccepted};
 ghost use Rattle.dj.specs.DjTaking.{p, isDeclared, radioAnswer, radioRule, unpairedRule, wpidOf, reportsOf, isPairedWith, pairedRule, linkRule, otherRule, takeDj};
@@ -109,17 +108,6 @@ fn reports_of(bytes: &[u8]) -> u32
     report::join4(p(bytes, 3), p(bytes, 4), p(bytes, 5), p(bytes, 6))
 }
 
-// The port made fresh, and paired with these.
-fn paired_anew(port: Port, wpid: u16, reports: u32) -> Port
-    ensures { λ r. ⌜ r ≡ withPairing (madeFresh port) wpid reports ⌝ }
-{
-    let mut next = port::made_fresh(port);
-    next.paired = true;
-    next.wpid = wpid;
-    next.reports = reports;
-    next
-}
-
 fn is_paired_with(port: Port, wpid: u16) -> bool
     ensures { λ r. ⌜ r ≡ isPairedWith port wpid ⌝ }
 {
@@ -156,7 +144,7 @@ fn take_paired(port: Port, device: Device, more: bool, wpid: u16, reports: u32) 
             reports,
             dropped,
         }),
-        port: paired_anew(port, wpid, reports),
+        port: port::paired_anew(port, wpid, reports),
     }
 }
 

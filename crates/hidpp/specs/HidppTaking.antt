@@ -74,10 +74,10 @@ errorRule p m =
     })
     (unchanged (carried stray m) p)
 
--- 2. the request of this place ends with this reply
+-- 2. the request of this place ends with this reply, which drops nothing at its own port
 unfoldable pub replyRule : Port → Message → ℕ → Result
 replyRule p m place =
-    record { answer = carried reply m; port = afterReply (endedAt p place) m (requestIn (p .places) place) }
+    record { answer = carried (reply 0) m; port = afterReply (endedAt p place) m (requestIn (p .places) place) }
 
 -- version major 1
 abbrev pub isMajor1 : Version → Bool

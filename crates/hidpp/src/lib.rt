@@ -328,7 +328,10 @@ fn take_reply(port: Port, m: Message, place: usize) -> PortTaken
     let request = port::request_in(places, place);
     let ended = waiting::end_at(port, place);
     PortTaken {
-        answer: Taken::Reply(about(m, m.byte2, m.byte3)),
+        answer: Taken::Reply {
+            about: about(m, m.byte2, m.byte3),
+            dropped: 0,
+        },
         port: after_reply(ended, m, request),
     }
 }

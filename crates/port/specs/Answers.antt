@@ -1,4 +1,4 @@
--- Document 01, "Taking a HID++ report" and "Taking a DJ report": what taking a report answers.
+-- Document 01, "Taking a HID++ report" and "Taking a DJ report", and document 02, Ask 1 (drops): what taking a report answers.
 use Prim.Native.Nat.{ℕ}
 use mathlib.Core.Bool.{Bool}
 use Rattle.port.specs.declared.Port.{Port}
@@ -26,10 +26,11 @@ error1 = 0x8F
 abbrev pub error2 : ℕ
 error2 = 0xFF
 
--- a refusal's number; for a HID++ report what it is about, an error also with the code and its kind, 0x8F or 0xFF; for a radio report the type and the payload's start and length; or a notice
+-- a refusal's number; for a HID++ report what it is about, a reply also with the number of requests that it dropped on another port, an error with the code and its kind, 0x8F or 0xFF; for a radio report the type and the payload's start and length; or a notice
 pub data Answer : Type 0 where
   refused : ℕ → Answer
-  reply stray plain event : About → Answer
+  reply : (dropped : ℕ) → About → Answer
+  stray plain event : About → Answer
   failed : About → (code kind : ℕ) → Answer
   radio : (kind start size : ℕ) → Answer
   notice : Notice → Answer

@@ -33,7 +33,7 @@ aboutOf a = record { port = a .port .0; byte2 = a .byte2 .0; byte3 = a .byte3; s
 
 abbrev pub takenOf : Taken → rules.Answer
 takenOf (Refused r) = rules.refused (numberOf r)
-takenOf (Reply a) = rules.reply (aboutOf a)
+takenOf (Reply a dropped) = rules.reply dropped (aboutOf a)
 takenOf (Stray a) = rules.stray (aboutOf a)
 takenOf (Plain a) = rules.plain (aboutOf a)
 takenOf (Event a) = rules.event (aboutOf a)

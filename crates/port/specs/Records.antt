@@ -1,4 +1,4 @@
--- Document 01, "Ports and their records": what is fresh.
+-- Document 01, "Ports and their records", and document 02, Ask 1 (the serial): what is fresh.
 use Prim.Native.Nat.{ℕ, suc}
 use mathlib.Core.Bool.{Bool, true, false, cond}
 use mathlib.Core.List.{List, [], _∷_}
@@ -10,6 +10,8 @@ use Rattle.port.specs.declared.Version.{Version}
 use Rattle.port.specs.declared.Version.the-variants as versions
 use Rattle.port.specs.declared.Battery.{Battery}
 use Rattle.port.specs.declared.Battery.the-variants as batteries
+use Rattle.port.specs.declared.Serial.{Serial}
+use Rattle.port.specs.declared.Serial.the-variants as serials
 use Rattle.report.specs.declared.FeatureIndex.{FeatureIndex}
 
 -- places for waiting requests on a port
@@ -52,7 +54,7 @@ unfoldable pub emptyPlace : Request
 emptyPlace =
     record { byte2 = record { 0 = 0 }; byte3 = 0; first = record { 0 = 0; 1 = 0; 2 = 0 }; ticks = 0 }
 
--- not paired, numbers 0, the link down, version and battery unknown, no index found, four empty places
+-- not paired, numbers 0, the link down, version, battery and serial unknown, no index found, four empty places
 unfoldable pub freshPort : Port
 freshPort =
     record {
@@ -63,6 +65,7 @@ freshPort =
       version = versions.Unknown;
       features = replicate featureCount (record { 0 = 0 });
       battery = batteries.Unknown;
+      serial = serials.Unknown;
       places = replicate placeCount emptyPlace;
     }
 
@@ -80,23 +83,26 @@ featureAt features slot = getD features slot (record { 0 = 0 }) .0
 
 -- a port with one thing of it changed
 unfoldable pub withVersion : Port → Version → Port
-withVersion p x = record { paired = p .paired; wpid = p .wpid; reports = p .reports; up = p .up; version = x; features = p .features; battery = p .battery; places = p .places }
+withVersion p x = record { paired = p .paired; wpid = p .wpid; reports = p .reports; up = p .up; version = x; features = p .features; battery = p .battery; serial = p .serial; places = p .places }
 
 unfoldable pub withBattery : Port → Battery → Port
-withBattery p x = record { paired = p .paired; wpid = p .wpid; reports = p .reports; up = p .up; version = p .version; features = p .features; battery = x; places = p .places }
+withBattery p x = record { paired = p .paired; wpid = p .wpid; reports = p .reports; up = p .up; version = p .version; features = p .features; battery = x; serial = p .serial; places = p .places }
+
+unfoldable pub withSerial : Port → Serial → Port
+withSerial p x = record { paired = p .paired; wpid = p .wpid; reports = p .reports; up = p .up; version = p .version; features = p .features; battery = p .battery; serial = x; places = p .places }
 
 unfoldable pub withFeatures : Port → List FeatureIndex → Port
-withFeatures p x = record { paired = p .paired; wpid = p .wpid; reports = p .reports; up = p .up; version = p .version; features = x; battery = p .battery; places = p .places }
+withFeatures p x = record { paired = p .paired; wpid = p .wpid; reports = p .reports; up = p .up; version = p .version; features = x; battery = p .battery; serial = p .serial; places = p .places }
 
 unfoldable pub withPlaces : Port → List Request → Port
-withPlaces p x = record { paired = p .paired; wpid = p .wpid; reports = p .reports; up = p .up; version = p .version; features = p .features; battery = p .battery; places = x }
+withPlaces p x = record { paired = p .paired; wpid = p .wpid; reports = p .reports; up = p .up; version = p .version; features = p .features; battery = p .battery; serial = p .serial; places = x }
 
 unfoldable pub withLink : Port → Bool → Port
-withLink p x = record { paired = p .paired; wpid = p .wpid; reports = p .reports; up = x; version = p .version; features = p .features; battery = p .battery; places = p .places }
+withLink p x = record { paired = p .paired; wpid = p .wpid; reports = p .reports; up = x; version = p .version; features = p .features; battery = p .battery; serial = p .serial; places = p .places }
 
 unfoldable pub withReports : Port → ℕ → Port
-withReports p x = record { paired = p .paired; wpid = p .wpid; reports = x; up = p .up; version = p .version; features = p .features; battery = p .battery; places = p .places }
+withReports p x = record { paired = p .paired; wpid = p .wpid; reports = x; up = p .up; version = p .version; features = p .features; battery = p .battery; serial = p .serial; places = p .places }
 
 -- paired with this WPID and bitfield
 unfoldable pub withPairing : Port → ℕ → ℕ → Port
-withPairing p wpid reports = record { paired = true; wpid = wpid; reports = reports; up = p .up; version = p .version; features = p .features; battery = p .battery; places = p .places }
+withPairing p wpid reports = record { paired = true; wpid = wpid; reports = reports; up = p .up; version = p .version; features = p .features; battery = p .battery; serial = p .serial; places = p .places }

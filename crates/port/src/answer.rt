@@ -63,7 +63,11 @@ pub enum Notice {
 
 pub enum Taken {
     Refused(Refusal),
-    Reply(About),
+    // The reply that ended a request; where a device's serial changed, the number of requests that it dropped there.
+    Reply {
+        about: About,
+        dropped: u8,
+    },
     Stray(About),
     Plain(About),
     Event(About),

@@ -2,7 +2,7 @@
 ghost use mathlib.Core.Path.{_≡_};
 ghost use Prim.Native.Nat.{_-_, _≤_};
 ghost use lib.ListN.{set};
-ghost use Rattle.port.specs.Records.{freshPort, madeFresh, emptyPlace, requestIn, featureAt, withVersion, withBattery, withFeatures, withPlaces, withLink};
+ghost use Rattle.port.specs.Records.{freshPort, madeFresh, emptyPlace, requestIn, featureAt, withVersion, withBattery, withSerial, withFeatures, withPlaces, withLink, withPairing};
 ghost use Rattle.port.specs.Places.{matches, firstAt, isEmpty, oneIfWaiting, countWaiting};
 ghost use Rattle.port.specs.Ticks.{afterTick, oneIfEnding, tickRule};
 
@@ -43,6 +43,12 @@ pub enum Battery {
     Known(u8, u8, u8),
 }
 
+// The number that tells a device from others of its model.
+pub enum Serial {
+    Unknown,
+    Known(u32),
+}
+
 // The record of one device, or of the receiver.
 pub struct Port {
     pub paired: bool,
@@ -54,6 +60,7 @@ pub struct Port {
     // By slot, the index found for each known feature, 0 where not found.
     pub features: [FeatureIndex; FEATURES],
     pub battery: Battery,
+    pub serial: Serial,
     pub places: [Request; PLACES],
 }
 
@@ -81,6 +88,7 @@ pub fn fresh() -> Port
         version: Version::Unknown,
         features: [none; FEATURES],
         battery: Battery::Unknown,
+        serial: Serial::Unknown,
         places: [empty; PLACES],
     }
 }
@@ -90,6 +98,17 @@ pub fn made_fresh(port: Port) -> Port
     ensures fresh { λ r. ⌜ r ≡ madeFresh port ⌝ }
 {
     fresh()
+}
+
+// The port made fresh, and paired with these.
+pub fn paired_anew(port: Port, wpid: u16, reports: u32) -> Port
+    ensures paired { λ r. ⌜ r ≡ withPairing (madeFresh port) wpid reports ⌝ }
+{
+    let mut next = made_fresh(port);
+    next.paired = true;
+    next.wpid = wpid;
+    next.reports = reports;
+    next
 }
 
 // Whether a request with these bytes 2 and 3 waits in the place.
@@ -272,6 +291,7 @@ pub fn with_version(port: Port, version: Version) -> Port
 {
     let features = port.features;
     let battery = port.battery;
+    let serial = port.serial;
     let places = port.places;
     Port {
         paired: port.paired,
@@ -281,6 +301,7 @@ pub fn with_version(port: Port, version: Version) -> Port
         version,
         features,
         battery,
+        serial,
         places,
     }
 }
@@ -290,6 +311,7 @@ pub fn with_battery(port: Port, battery: Battery) -> Port
 {
     let version = port.version;
     let features = port.features;
+    let serial = port.serial;
     let places = port.places;
     Port {
         paired: port.paired,
@@ -299,6 +321,27 @@ pub fn with_battery(port: Port, battery: Battery) -> Port
         version,
         features,
         battery,
+        serial,
+        places,
+    }
+}
+
+pub fn with_serial(port: Port, serial: Serial) -> Port
+    ensures changed { λ r. ⌜ r ≡ withSerial port serial ⌝ }
+{
+    let version = port.version;
+    let features = port.features;
+    let battery = port.battery;
+    let places = port.places;
+    Port {
+        paired: port.paired,
+        wpid: port.wpid,
+        reports: port.reports,
+        up: port.up,
+        version,
+        features,
+        battery,
+        serial,
         places,
     }
 }

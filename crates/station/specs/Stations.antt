@@ -8,6 +8,7 @@ use Rattle.report.specs.Ports.{deviceCount, receiver, isDevice}
 use Rattle.port.specs.declared.Port.{Port}
 use Rattle.port.specs.declared.Version.the-variants as versions
 use Rattle.port.specs.declared.Battery.the-variants as batteries
+use Rattle.port.specs.declared.Serial.the-variants as serials
 use Rattle.port.specs.Records.{freshPort}
 use Rattle.station.specs.declared.Station.{Station}
 
@@ -40,6 +41,7 @@ noPort =
       version = versions.Unknown;
       features = [];
       battery = batteries.Unknown;
+      serial = serials.Unknown;
       places = [];
     }
 

@@ -8,7 +8,7 @@ use Rattle.hidpp.proofs.take_reply.Tie as tie
 
 returns : tie.Need-returns
 unfolding replyRule
-returns c = carry reply (c .before .about .ensures) (cc (c .after-reply .ensures, c .before .before .before .request-in .ensures, c .before .before .end-at .ensures))
+returns c = carry (reply 0) (c .before .about .ensures) (cc (c .after-reply .ensures, c .before .before .before .request-in .ensures, c .before .before .end-at .ensures))
 
 pub take-reply-spec : {M : Type 1} → statement M
 take-reply-spec =

@@ -1,8 +1,8 @@
--- `dj::paired_anew` meets its contract.
+-- `port::paired_anew` meets its contract.
 use Rattle.port.specs.Records.{withPairing}
 use borrow.Author.Needs.{needs}
-use Rattle.dj.proofs.paired_anew.Statement.{statement}
-use Rattle.dj.proofs.paired_anew.Tie as tie
+use Rattle.port.proofs.paired_anew.Statement.{statement}
+use Rattle.port.proofs.paired_anew.Tie as tie
 
 returns : tie.Need-returns
 unfolding withPairing
