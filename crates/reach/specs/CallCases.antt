@@ -1,4 +1,4 @@
--- Document 01, "Refusal numbers", "Writing", "Taking a HID++ report" and "Taking a DJ report": which case a call falls into, and its whole outcome. Each case says all that it asks for, and so what the points before it left.
+-- Document 01, "Refusal numbers", "Writing", "Taking a HID++ report" and "Taking a DJ report", and document 02, Ask 1: which case a call falls into, and its whole outcome. Each case says all that it asks for, and so what the points before it left.
 use Prim.Native.Nat.{ℕ, _≤_, _<_}
 use mathlib.Core.Path.{_≡_}
 use mathlib.Core.Logic.{_↔_}
@@ -12,7 +12,8 @@ use Rattle.report.specs.Reading as reading
 use Rattle.report.specs.Reading.{Report, readRule}
 use Rattle.frame.specs.Writing as writing
 use Rattle.port.specs.declared.Port.{Port}
-use Rattle.port.specs.Records.{placeCount, madeFresh, requestIn, withPairing, withLink, withReports}
+use Rattle.port.specs.declared.Serial.the-variants.{Unknown, Known}
+use Rattle.port.specs.Records.{placeCount, madeFresh, requestIn, withPairing, withSerial, withLink, withReports}
 use Rattle.port.specs.Places.{isEmpty, matches, firstAt, countWaiting}
 use Rattle.port.specs.Waiting as waiting
 use Rattle.port.specs.Waiting.{waitingAt, endedAt}
@@ -20,10 +21,12 @@ use Rattle.port.specs.Answers.{Answer, refused, reply, stray, plain, event, fai
 use Rattle.hidpp.specs.declared.Message.{Message}
 use Rattle.hidpp.specs.HidppRecords.{afterReply, afterError, afterEvent}
 use Rattle.hidpp.specs.HidppTaking.{messageOf, about, carried, isError, named2, named3, code, errorFits, kindOf, isMajor1, takeHidpp}
+use Rattle.serial.specs.Serials.{SerialResult}
+use Rattle.serial.specs.Giving.{Gives}
 use Rattle.dj.specs.DjTaking.{isDeclared, radioAnswer, isMore, wpidOf, reportsOf, isPairedWith, isUp}
 use Rattle.request.specs.Requesting.{isForbidden, waitingRequest, RequestAt, refusedAt, withWaiting, requestAt}
 use Rattle.station.specs.declared.Station.{Station}
-use Rattle.station.specs.Stations.{portCount, positionOf, portAt, portFor}
+use Rattle.station.specs.Stations.{portCount, positionOf, portAt, portFor, withPort}
 use Rattle.station.specs.StationTaking.{storedAt}
 use Rattle.station.specs.StationCalls.{requestedAt, cancelledAt, tickAll}
 use Rattle.sequence.specs.Steps.{Writer, Call, take, request, cancel, tick, write, Outcome, takeStep, requestStep, cancelStep, tickStep, writeStep, writerRule, step}
@@ -90,12 +93,29 @@ module _ (p : Port) (m : Message) where
   abbrev pub repliedPlace : ℕ
   repliedPlace = waitingAt p byte2 byte3
 
+  -- the port after the reply
+  abbrev pub repliedPort : Port
+  repliedPort = afterReply (endedAt p repliedPlace) m (requestIn (p .places) repliedPlace)
+
   pub data HidppCase : Result → Type 0 where
     givesFailed : IsFailed → HidppCase (gives failedBy (afterError (endedAt p failedPlace) byte2 (named2 m) (named3 m) (code m)))
-    givesReply : IsReply → HidppCase (gives (carried reply m) (afterReply (endedAt p repliedPlace) m (requestIn (p .places) repliedPlace)))
+    givesReply : IsReply → HidppCase (gives (carried (reply 0) m) repliedPort)
     givesStray : IsStray → HidppCase (gives (carried stray m) p)
     givesPlain : IsPlain → HidppCase (gives (carried plain m) p)
     givesEvent : IsEvent → HidppCase (gives (carried event m) (afterEvent p m))
+
+-- a serial at its device's port
+pub data SerialCase (p : Port) (number : ℕ) : SerialResult → Type 0 where
+  -- a device that is not paired
+  keepsNone : p .paired ≡ false → SerialCase p number (record { dropped = 0; port = p })
+  -- the first that is known, and the same again
+  firstSerial : p .paired ≡ true → p .serial ≡ Unknown → SerialCase p number (record { dropped = 0; port = withSerial p (Known number) })
+  sameSerial : p .paired ≡ true → p .serial ≡ Known number → SerialCase p number (record { dropped = 0; port = p })
+  -- a different one
+  otherSerial : (known : ℕ) → p .paired ≡ true → p .serial ≡ Known known → ¬ (known ≡ number) → SerialCase p number (record {
+    dropped = countWaiting (p .places);
+    port = withSerial (withPairing (madeFresh p) (p .wpid) (p .reports)) (Known number);
+  })
 
 -- a DJ report at its port
 module _ (p : Port) (r : Report) (bytes : List ℕ) where
@@ -162,7 +182,12 @@ pub data CancelCase (p : Port) (byte2 byte3 : ℕ) : waiting.CancelResult → Ty
 pub data StepCase (st : Station) : Call → Outcome → Type 0 where
   unread : {bytes : List ℕ} {number : ℕ} → readRule bytes ≡ reading.refused number → StepCase st (take bytes) (takeStep bytes (record { answer = refused number; station = st }))
   listEmpty : {bytes : List ℕ} {r : Report} → readRule bytes ≡ reading.emptyList r → StepCase st (take bytes) (takeStep bytes (record { answer = notice emptyList; station = st }))
-  hidppAtPort : {bytes : List ℕ} {r : Report} {x : Result} → readRule bytes ≡ reading.hidpp r → HidppCase (portFor st (r .device)) (messageOf r bytes) x → StepCase st (take bytes) (takeStep bytes (storedAt st (positionOf (r .device)) x))
+  hidppAtPort : {bytes : List ℕ} {r : Report} {x : Result} → readRule bytes ≡ reading.hidpp r → ((device number : ℕ) → ¬ Gives (portFor st (r .device)) r bytes device number) → HidppCase (portFor st (r .device)) (messageOf r bytes) x → StepCase st (take bytes) (takeStep bytes (storedAt st (positionOf (r .device)) x))
+  -- a reply that gives a device's serial: at its port, and at that device's
+  serialAtPort : {bytes : List ℕ} {r : Report} {device number : ℕ} {x : SerialResult} → readRule bytes ≡ reading.hidpp r → Gives (portFor st (r .device)) r bytes device number → SerialCase (portFor st device) number x → StepCase st (take bytes) (takeStep bytes (record {
+    answer = carried (reply (x .dropped)) (messageOf r bytes);
+    station = withPort (withPort st (positionOf (r .device)) (repliedPort (portFor st (r .device)) (messageOf r bytes))) (positionOf device) (x .port);
+  }))
   djAtPort : {bytes : List ℕ} {r : Report} {x : Result} → readRule bytes ≡ reading.dj r → DjCase (portFor st (r .device)) r bytes x → StepCase st (take bytes) (takeStep bytes (storedAt st (positionOf (r .device)) x))
   request5 : {device byte2 byte3 ticks : ℕ} {params : List ℕ} {offset : ℕ} {lent : List ℕ} → isPort device ≡ false → StepCase st (request device byte2 byte3 ticks params offset lent) (requestStep params (record { answer = writing.refused noSuchPort; station = st; lent = lent }))
   requestAtPort : {device byte2 byte3 ticks : ℕ} {params : List ℕ} {offset : ℕ} {lent : List ℕ} {x : RequestAt} → isPort device ≡ true → RequestCase (portFor st device) device byte2 byte3 ticks params offset lent x → StepCase st (request device byte2 byte3 ticks params offset lent) (requestStep params (requestedAt st (positionOf device) x))
@@ -186,7 +211,7 @@ ByCases st c = (o : Outcome) → (step st c ≡ o) ↔ StepCase st c o
 -- when the rule for a HID++ report gives each of its answers
 pub record HidppAnswers (p : Port) (m : Message) : Type 0 where
   pub whenFailed : (takeHidpp p m .answer ≡ failedBy p m) ↔ IsFailed p m
-  pub whenReply : (takeHidpp p m .answer ≡ carried reply m) ↔ IsReply p m
+  pub whenReply : (takeHidpp p m .answer ≡ carried (reply 0) m) ↔ IsReply p m
   pub whenStray : (takeHidpp p m .answer ≡ carried stray m) ↔ IsStray p m
   pub whenPlain : (takeHidpp p m .answer ≡ carried plain m) ↔ IsPlain p m
   pub whenEvent : (takeHidpp p m .answer ≡ carried event m) ↔ IsEvent p m

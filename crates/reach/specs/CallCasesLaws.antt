@@ -2,39 +2,44 @@
 use Prim.Native.Nat.{ℕ, _<_}
 use mathlib.Core.Path.{_≡_, refl, sym, _∙_, ap, subst}
 use mathlib.Core.Logic.{_↔_}
-use mathlib.Core.Bool.{Bool, true, false, _&&_, true≢false}
+use mathlib.Core.Bool.{Bool, true, false, cond, not, _&&_, true≢false}
 use mathlib.Core.List.{List}
 use native.Mathlib.Decide.{decLt}
 use native.Mathlib.Omega.{arith}
 use lib.ListN.{length}
-use lib.Dec.{leb}
-use borrow.Author.Tests.{leb-true, leb-false, eqb-true, eqb-false, ltb-true, ltb-false, not-true, not-false, lt-ltb, le-ltb, le-leb, lt-leb, ne-eqb}
+use lib.Dec.{leb, eqb}
+use borrow.Author.Tests.{leb-true, leb-false, eqb-true, eqb-false, ltb-true, ltb-false, not-true, not-false, lt-ltb, le-ltb, le-leb, lt-leb, eq-eqb, ne-eqb}
 use Rattle.report.specs.ChoicesLaws.{by-case, both}
 use Rattle.report.specs.Refusals.{notWaiting}
 use Rattle.report.specs.Reading as reading
 use Rattle.report.specs.Reading.{Report, Read, readRule}
 use Rattle.frame.specs.Writing as writing
 use Rattle.port.specs.declared.Port.{Port}
-use Rattle.port.specs.Records.{placeCount, emptyPlace}
+use Rattle.port.specs.declared.Serial.{Serial}
+use Rattle.port.specs.declared.Serial.the-variants.{Unknown, Known}
+use Rattle.port.specs.Records.{placeCount, emptyPlace, madeFresh, withPairing, withSerial}
 use Rattle.port.specs.Places.{isEmpty, matches, firstAt, countWaiting}
 use Rattle.port.specs.Waiting as waiting
 use Rattle.port.specs.Waiting.{isFound, waitingAt, roomFor}
 use Rattle.port.specs.WaitingLaws.{few-waiting, full}
 use Rattle.port.specs.Answers.{Answer, refused, reply, stray, plain, event, failed, radio, notice, Result}
 use Rattle.hidpp.specs.declared.Message.{Message}
-use Rattle.hidpp.specs.HidppTaking.{messageOf, errorFits, named2, named3, errorRule, replyRule, featureRule, unaskedRule, takeHidpp}
+use Rattle.hidpp.specs.HidppTaking.{messageOf, carried, isError, errorFits, named2, named3, errorRule, replyRule, featureRule, unaskedRule, takeHidpp}
+use Rattle.serial.specs.Serials.{Given, noSerial, serialOf, givenBy, isAnother, SerialResult, serialRule}
+use Rattle.serial.specs.Giving.{Gives}
+use Rattle.serial.specs.GivingLaws.{given-exactly}
 use Rattle.dj.specs.DjTaking.{radioRule, unpairedRule, pairedRule, linkRule, otherRule, takeDj}
 use Rattle.request.specs.Requesting.{RequestAt, waitingRequest, requestBy, requestAt}
 use Rattle.station.specs.declared.Station.{Station}
-use Rattle.station.specs.Stations.{positionOf, portFor}
+use Rattle.station.specs.Stations.{positionOf, portFor, withPort}
 use Rattle.station.specs.StationsLaws.{position-within}
-use Rattle.station.specs.StationTaking.{storedAt, takeBy, takeRule}
+use Rattle.station.specs.StationTaking.{storedAt, alsoAt, takeBy, takeRule}
 use Rattle.station.specs.StationCalls.{RequestOutcome, requestedAt, requestRule, CancelOutcome, cancelledAt, cancelRule}
 use Rattle.sequence.specs.Steps.{Call, take, request, cancel, tick, write, Outcome, takeStep, requestStep, cancelStep, step}
 use Rattle.reach.specs.ListsLaws.{found-passes, passes-found}
 use Rattle.sequence.specs.ReadingsLaws.{in-range, above}
 use Rattle.reach.specs.SoundLaws.{empty-fails}
-use Rattle.reach.specs.CallCases.{Waits, Unasked, IsFailed, IsReply, IsStray, unnamed, register, reserved, late, IsPlain, notification, major1, IsEvent, software0, HidppCase, givesFailed, givesReply, givesStray, givesPlain, givesEvent, radioUnpaired, radioUndeclared, linkUnpaired, DjCase, djRefused, radioTaken, unpairs, pairedSame, pairedNew, linkSet, otherNotice, Writable, RequestRefused, is9, is10, is11, is12, RequestCase, requestRefused, accepted, CancelCase, refused13, cancelDone, StepCase, unread, listEmpty, hidppAtPort, djAtPort, request5, requestAtPort, cancel5, cancelAtPort, tickAllPorts, writeOnly, Placed, AllPlaced, ByCases, HidppAnswers, RequestAnswers, CancelAnswers}
+use Rattle.reach.specs.CallCases.{Waits, Unasked, IsFailed, IsReply, IsStray, unnamed, register, reserved, late, IsPlain, notification, major1, IsEvent, software0, HidppCase, givesFailed, givesReply, givesStray, givesPlain, givesEvent, gives, repliedPort, SerialCase, keepsNone, firstSerial, sameSerial, otherSerial, radioUnpaired, radioUndeclared, linkUnpaired, DjCase, djRefused, radioTaken, unpairs, pairedSame, pairedNew, linkSet, otherNotice, Writable, RequestRefused, is9, is10, is11, is12, RequestCase, requestRefused, accepted, CancelCase, refused13, cancelDone, StepCase, unread, listEmpty, hidppAtPort, serialAtPort, djAtPort, request5, requestAtPort, cancel5, cancelAtPort, tickAllPorts, writeOnly, Placed, AllPlaced, ByCases, HidppAnswers, RequestAnswers, CancelAnswers}
 
 -- joined with a false test
 pub and-false : (b : Bool) → (b && false) ≡ false
@@ -48,7 +53,7 @@ not-so false n = refl
 
 module _ (p : Port) (placed : Placed p) where
   -- what the search finds waits, and what waits is found
-  waits-at : (byte2 byte3 : ℕ) → isFound (waitingAt p byte2 byte3) ≡ true → Waits p byte2 byte3
+  pub waits-at : (byte2 byte3 : ℕ) → isFound (waitingAt p byte2 byte3) ≡ true → Waits p byte2 byte3
   waits-at byte2 byte3 e =
       (waitingAt p byte2 byte3, found-passes (matches byte2 byte3) emptyPlace (p .places) (omega (arith, placed, ltb-true (waitingAt p byte2 byte3) placeCount e)))
 
@@ -128,7 +133,7 @@ module _ (p : Port) (placed : Placed p) (m : Message) where
   -- what is so where an answer is given
   abbrev Why : Answer → Type 0
   Why (refused number) = ⊥
-  Why (reply a) = IsReply p m
+  Why (reply dropped a) = IsReply p m
   Why (stray a) = IsStray p m
   Why (plain a) = IsPlain p m
   Why (event a) = IsEvent p m
@@ -189,28 +194,28 @@ module _ (p : Port) (r : Report) (bytes : List ℕ) where
   dj-only (otherNotice l) = simp (le-ltb (r .byte2) 0x40 (omega arith), ne-eqb (r .byte2) 0x40 (omega arith), ne-eqb (r .byte2) 0x41 (omega arith), ne-eqb (r .byte2) 0x42 (omega arith))
 
 module _ (p : Port) (placed : Placed p) (device byte2 byte3 ticks : ℕ) (params : List ℕ) (offset : ℕ) (lent : List ℕ) where
-  abbrev given : RequestAt
-  given = requestAt p device byte2 byte3 ticks params offset lent
+  abbrev asked : RequestAt
+  asked = requestAt p device byte2 byte3 ticks params offset lent
 
-  abbrev Given : RequestAt → Type 0
-  Given = RequestCase p device byte2 byte3 ticks params offset lent
+  abbrev AskedCase : RequestAt → Type 0
+  AskedCase = RequestCase p device byte2 byte3 ticks params offset lent
 
   abbrev Refusing : ℕ → Type 0
   Refusing = RequestRefused p device byte2 byte3 ticks params offset lent
 
   abbrev Into : waiting.Room → Type 0
-  Into room = Given (requestBy room p (waitingRequest byte2 byte3 ticks params) (writing.requestFrame device byte2 byte3 params) offset lent)
+  Into room = AskedCase (requestBy room p (waitingRequest byte2 byte3 ticks params) (writing.requestFrame device byte2 byte3 params) offset lent)
 
-  pub request-case : Given given
+  pub request-case : AskedCase asked
   unfolding requestAt requestBy roomFor
   request-case =
-      by-case Given _ (λ e. requestRefused (is9 e))
-      (λ e. by-case Given _ (λ q. requestRefused (is10 e (not-true _ q)))
+      by-case AskedCase _ (λ e. requestRefused (is9 e))
+      (λ e. by-case AskedCase _ (λ q. requestRefused (is10 e (not-true _ q)))
       (λ q. let f : Writable p device byte2 byte3 ticks params offset lent = record { allowed = e; room = not-false _ q } in by-case Into _ (λ z. requestRefused (is11 f (waits-at p placed _ _ z)))
       (λ z. let n = none-waits p placed byte2 byte3 z in by-case Into _ (λ y. requestRefused (is12 f n (omega (arith, placed, few-waiting (p .places), leb-true placeCount (countWaiting (p .places)) y))))
       (λ y. accepted f n (leb-false _ _ y)))))
 
-  request-only : {r : RequestAt} → Given r → given ≡ r
+  request-only : {r : RequestAt} → AskedCase r → asked ≡ r
   unfolding requestAt requestBy roomFor
   request-only (requestRefused (is9 e)) = simp e
   request-only (requestRefused (is10 e q)) = simp (e, q)
@@ -219,7 +224,7 @@ module _ (p : Port) (placed : Placed p) (device byte2 byte3 ticks : ℕ) (params
       simp (f .allowed, f .room, none-found p placed byte2 byte3 n, le-leb placeCount (countWaiting (p .places)) (omega arith))
   request-only (accepted f n l) = simp (f .allowed, f .room, none-found p placed byte2 byte3 n, lt-leb)
 
-  why-refused : {number : ℕ} {r : RequestAt} → Given r → r .answer ≡ writing.refused number → Refusing number
+  why-refused : {number : ℕ} {r : RequestAt} → AskedCase r → r .answer ≡ writing.refused number → Refusing number
   why-refused (requestRefused h) e = subst Refusing (cc) h
   why-refused (accepted f q l) e = absurd (let z : _≡_ {A = ℕ} 0 1 = cc in omega arith)
 
@@ -246,6 +251,59 @@ module _ (p : Port) (placed : Placed p) (byte2 byte3 : ℕ) where
   cancel-answers =
       (not-waiting cancel-case, λ n. ap (λ (r : waiting.CancelResult). r .answer) (cancel-only (refused13 n)))
 
+-- a report that gives a serial is a reply
+reply-given : (p : Port) → Placed p → (r : Report) (bytes : List ℕ) {device number : ℕ} → Gives p r bytes device number → takeHidpp p (messageOf r bytes) ≡ gives (carried (reply 0) (messageOf r bytes)) (repliedPort p (messageOf r bytes))
+unfolding messageOf
+reply-given p placed r bytes h =
+    let waits : Waits p (r .byte2) (r .byte3) = waits-at p placed (r .byte2) (r .byte3) (cc (h .byte2, h .byte3, h .waits)) in
+    let no-error : isError (r .byte2) ≡ false = ap isError (h .byte2) in
+    hidpp-only p placed (messageOf r bytes) (givesReply (no-error, waits))
+
+gives-no-serial : {device number : ℕ} → noSerial ≡ serialOf device number → ⊥
+gives-no-serial e = true≢false (ap none e)
+  where
+    none : Given → Bool
+    none noSerial = true
+    none (serialOf device number) = false
+
+none-given : (p : Port) (r : Report) (bytes : List ℕ) → ((device number : ℕ) → ¬ Gives p r bytes device number) → givenBy p r bytes ≡ noSerial
+none-given p r bytes n = go (givenBy p r bytes) refl
+  where
+    go : (g : Given) → givenBy p r bytes ≡ g → givenBy p r bytes ≡ noSerial
+    go noSerial q = q
+    go (serialOf device number) q = absurd (n device number (given-exactly p r bytes device number .0 q))
+
+-- a serial at its device's port has a case, and no other
+module _ (p : Port) (number : ℕ) where
+  same-again : p .serial ≡ Known number → withSerial p (Known number) ≡ p
+  unfolding withSerial
+  same-again e = ap (withSerial p) (sym e)
+
+  pub serial-case : SerialCase p number (serialRule p number)
+  unfolding serialRule
+  serial-case =
+      by-case (SerialCase p number) (not (p .paired)) (λ e. keepsNone (not-true (p .paired) e))
+      (λ e. known (not-false (p .paired) e) (p .serial) refl)
+    where
+      known : p .paired ≡ true → (s : Serial) → p .serial ≡ s → SerialCase p number (cond (isAnother s number) (record { dropped = countWaiting (p .places); port = withSerial (withPairing (madeFresh p) (p .wpid) (p .reports)) (Known number) }) (record { dropped = 0; port = withSerial p (Known number) }))
+      known h Unknown q = firstSerial h q
+      known h (Known before) q =
+          by-case (SerialCase p number) (not (eqb before number))
+          (λ z. otherSerial before h q (eqb-false before number (not-true _ z)))
+          (λ z. let is : before ≡ number = eqb-true before number (not-false _ z) in
+          let at : p .serial ≡ Known number = q ∙ ap Known is in
+          subst (λ (x : Port). SerialCase p number (record { dropped = 0; port = x })) (sym (same-again at)) (sameSerial h at))
+
+  serial-only : {x : SerialResult} → SerialCase p number x → serialRule p number ≡ x
+  unfolding serialRule
+  serial-only (keepsNone h) = simp h
+  serial-only (firstSerial h q) = simp (h, q)
+  serial-only (sameSerial h q) = simp (h, q, eq-eqb number number refl) (ap (λ (x : Port). kept x) (same-again q))
+    where
+      kept : Port → SerialResult
+      kept x = record { dropped = 0; port = x }
+  serial-only (otherSerial before h q n) = simp (h, q, ne-eqb before number n)
+
 module _ (st : Station) (placed : AllPlaced st) where
   at-port : (device : ℕ) → Placed (portFor st device)
   at-port device = placed (positionOf device) (position-within device)
@@ -254,7 +312,21 @@ module _ (st : Station) (placed : AllPlaced st) where
   unfolding takeBy
   take-case (reading.refused number) e = unread e
   take-case (reading.emptyList r) e = listEmpty e
-  take-case {bytes} (reading.hidpp r) e = hidppAtPort e (hidpp-case _ (at-port (r .device)) (messageOf r bytes))
+  take-case {bytes} (reading.hidpp r) e = go (givenBy p r bytes) refl
+    where
+      p : Port
+      p = portFor st (r .device)
+
+      m : Message
+      m = messageOf r bytes
+
+      go : (g : Given) → givenBy p r bytes ≡ g → StepCase st (take bytes) (takeStep bytes (alsoAt st g (storedAt st (positionOf (r .device)) (takeHidpp p m))))
+      go noSerial q =
+          hidppAtPort e (λ device number h. gives-no-serial (sym q ∙ given-exactly p r bytes device number .1 h)) (hidpp-case p (at-port (r .device)) m)
+      go (serialOf device number) q =
+          let h = given-exactly p r bytes device number .0 q in
+          subst (λ (x : Result). StepCase st (take bytes) (takeStep bytes (alsoAt st (serialOf device number) (storedAt st (positionOf (r .device)) x)))) (sym (reply-given p (at-port (r .device)) r bytes h))
+          (serialAtPort e h (serial-case (portFor st device) number))
   take-case {bytes} (reading.dj r) e = djAtPort e (dj-case _ r bytes)
 
   pub step-case : (c : Call) → StepCase st c (step st c)
@@ -277,8 +349,18 @@ module _ (st : Station) (placed : AllPlaced st) where
   unfolding step takeBy requestRule cancelRule
   step-only (unread e) = read-as e
   step-only (listEmpty e) = read-as e
-  step-only (hidppAtPort {bytes} {r} e h) =
-      read-as e ∙ ap (λ (x : Result). takeStep bytes (storedAt st (positionOf (r .device)) x)) (hidpp-only _ (at-port (r .device)) _ h)
+  step-only (hidppAtPort {bytes} {r} e n h) =
+      read-as e
+      ∙ ap (λ (g : Given). takeStep bytes (alsoAt st g (storedAt st (positionOf (r .device)) (takeHidpp (portFor st (r .device)) (messageOf r bytes))))) (none-given (portFor st (r .device)) r bytes n)
+      ∙ ap (λ (x : Result). takeStep bytes (storedAt st (positionOf (r .device)) x)) (hidpp-only _ (at-port (r .device)) _ h)
+  step-only (serialAtPort {bytes} {r} {device} {number} e h s) =
+      read-as e
+      ∙ ap (λ (g : Given). takeStep bytes (alsoAt st g (storedAt st (positionOf (r .device)) (takeHidpp (portFor st (r .device)) (messageOf r bytes))))) (given-exactly (portFor st (r .device)) r bytes device number .1 h)
+      ∙ ap (λ (x : Result). takeStep bytes (alsoAt st (serialOf device number) (storedAt st (positionOf (r .device)) x))) (reply-given (portFor st (r .device)) (at-port (r .device)) r bytes h)
+      ∙ ap (λ (x : SerialResult). stored x) (serial-only (portFor st device) number s)
+    where
+      stored : SerialResult → Outcome
+      stored x = takeStep bytes (record { answer = carried (reply (x .dropped)) (messageOf r bytes); station = withPort (withPort st (positionOf (r .device)) (repliedPort (portFor st (r .device)) (messageOf r bytes))) (positionOf device) (x .port) })
   step-only (djAtPort {bytes} {r} e h) =
       read-as e ∙ ap (λ (x : Result). takeStep bytes (storedAt st (positionOf (r .device)) x)) (dj-only _ r bytes h)
   step-only (request5 e) = simp e

@@ -41,7 +41,7 @@ pub record Complete : Type 0 where
   pub named : (st : Station) (c : Call) → ByAnswer st c
   -- on every station that calls reach, of every call and each port: what becomes of each place, as the answer counts it; which fields change; and which request a report completes
   pub ends : (st : Station) → Reached st → (c : Call) (n : ℕ) → isPort n ≡ true → EndsAt n c (step st c .answer) (portFor st n) (portFor (step st c .station) n)
-  pub changes : (st : Station) → Reached st → (c : Call) (n : ℕ) → isPort n ≡ true → ChangesListed n c (step st c .answer) (portFor st n) (portFor (step st c .station) n)
+  pub changes : (st : Station) → Reached st → (c : Call) (n : ℕ) → isPort n ≡ true → ChangesListed n c (step st c .answer) (portFor st 255) (portFor st n) (portFor (step st c .station) n)
   pub completes : (st : Station) → Reached st → (bytes : List ℕ) → Completion st bytes (takeRule st bytes .answer) (takeRule st bytes .station)
   -- over all of a run: what was accepted on a port has ended in one of the ways, or waits
   pub accounted : (n : ℕ) → isPort n ≡ true → (st : Station) → Start st → (cs : List Call) → Accounted n (transcript st cs) (portFor (run st cs) n)

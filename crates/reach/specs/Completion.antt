@@ -1,4 +1,4 @@
--- Demand 2, in its own words: which request a report that is taken completes, and which requests a DJ report drops.
+-- Demand 2, in its own words, with document 02, Ask 1: which request a report that is taken completes, and which requests a DJ report, or another serial, drops.
 use Prim.Native.Nat.{ℕ}
 use mathlib.Core.Path.{_≡_}
 use mathlib.Core.Logic.{_↔_}
@@ -6,15 +6,18 @@ use mathlib.Core.Bool.{Bool, true, false, cond, not, _&&_, _||_}
 use mathlib.Core.List.{List}
 use lib.Dec.{eqb}
 use Rattle.report.specs.Ports.{isPort}
-use Rattle.report.specs.Sizes.{byte, isFeature}
+use Rattle.report.specs.Sizes.{byte, hidppStart, isFeature}
 use Rattle.report.specs.Reading as reading
-use Rattle.report.specs.Reading.{Read, readRule}
+use Rattle.report.specs.Reading.{Read, reportFrom, readRule}
 use Rattle.port.specs.declared.Port.{Port}
 use Rattle.port.specs.declared.Request.{Request}
+use Rattle.port.specs.declared.Serial.the-variants.{Known}
 use Rattle.port.specs.Records.{emptyPlace, requestIn}
 use Rattle.port.specs.Places.{isEmpty, matches}
 use Rattle.port.specs.Answers.{Answer, refused, reply, stray, plain, event, failed, radio, notice}
 use Rattle.hidpp.specs.HidppTaking.{isError}
+use Rattle.serial.specs.Serials.{Given, noSerial, serialOf, givenBy, isAnother}
+use Rattle.serial.specs.Giving.{Gives}
 use Rattle.dj.specs.DjTaking.{wpidOf, isPairedWith}
 use Rattle.station.specs.declared.Station.{Station}
 use Rattle.station.specs.Stations.{portFor}
@@ -23,7 +26,7 @@ use Rattle.reach.specs.CallCases.{Waits}
 -- the answer says that a request is completed by a reply, and by an error
 abbrev pub isReply : Answer → Bool
 isReply (refused number) = false
-isReply (reply a) = true
+isReply (reply dropped a) = true
 isReply (stray a) = false
 isReply (plain a) = false
 isReply (event a) = false
@@ -33,7 +36,7 @@ isReply (notice n) = false
 
 abbrev pub isFailure : Answer → Bool
 isFailure (refused number) = false
-isFailure (reply a) = false
+isFailure (reply dropped a) = false
 isFailure (stray a) = false
 isFailure (plain a) = false
 isFailure (event a) = false
@@ -66,17 +69,37 @@ Fails st bytes =
 abbrev pub makesFresh : Port → ℕ → List ℕ → Bool
 makesFresh p kind bytes = eqb kind 0x40 || (eqb kind 0x41 && not (isPairedWith p (wpidOf bytes)))
 
--- whether a report ends this request, which waits on the port p of the number n: a HID++ report the one that it answers, on the device that byte 1 names; a DJ report none, or all of them
-abbrev pub readEnds : Read → List ℕ → ℕ → Port → Request → Bool
-readEnds (reading.refused number) bytes n p r = false
-readEnds (reading.hidpp x) bytes n p r =
+-- a HID++ report ends the request that it answers, on the device that byte 1 names
+abbrev pub answersRequest : List ℕ → ℕ → Request → Bool
+answersRequest bytes n r =
     eqb (byte bytes 1) n && cond (isError (byte bytes 2)) (isFitting bytes && matches (byte bytes 3) (byte bytes 4) r) (matches (byte bytes 2) (byte bytes 3) r)
-readEnds (reading.dj x) bytes n p r =
+
+-- a serial that differs from the one that is known of its device, which is paired
+abbrev pub swaps : ℕ → Port → Given → Bool
+swaps n p noSerial = false
+swaps n p (serialOf device number) = eqb device n && (p .paired && isAnother (p .serial) number)
+
+-- whether a report that comes to the port w ends this request, which waits on the port p of the number n: a HID++ report the one that it answers, and all on a device that has another serial now; a DJ report none, or all of them
+abbrev pub readEnds : Port → Read → List ℕ → ℕ → Port → Request → Bool
+readEnds w (reading.refused number) bytes n p r = false
+readEnds w (reading.hidpp x) bytes n p r =
+    answersRequest bytes n r || (swaps n p (givenBy w x bytes) && not (isEmpty r))
+readEnds w (reading.dj x) bytes n p r =
     eqb (byte bytes 1) n && (makesFresh p (byte bytes 2) bytes && not (isEmpty r))
-readEnds (reading.emptyList x) bytes n p r = false
+readEnds w (reading.emptyList x) bytes n p r = false
 
 abbrev pub endsIn : Station → List ℕ → ℕ → ℕ → Bool
-endsIn st bytes n place = readEnds (readRule bytes) bytes n (portFor st n) (requestIn (portFor st n .places) place)
+endsIn st bytes n place =
+    readEnds (portFor st (byte bytes 1)) (readRule bytes) bytes n (portFor st n) (requestIn (portFor st n .places) place)
+
+-- a report gives another serial of the device n, which is paired and had one that differs
+pub record Swaps (st : Station) (bytes : List ℕ) (n : ℕ) : Type 0 where
+  pub known : ℕ
+  pub number : ℕ
+  pub given : Gives (portFor st 255) (reportFrom hidppStart bytes) bytes n number
+  pub paired : portFor st n .paired ≡ true
+  pub before : portFor st n .serial ≡ Known known
+  pub differs : ¬ (known ≡ number)
 
 -- of taking these bytes on this station: the answer, and the next station
 pub record Completion (st : Station) (bytes : List ℕ) (answer : Answer) (next : Station) : Type 0 where
@@ -85,5 +108,7 @@ pub record Completion (st : Station) (bytes : List ℕ) (answer : Answer) (next 
   pub fails : (isFailure answer ≡ true) ↔ Fails st bytes
   -- that one is ended, and no other place of any port changes
   pub ends : (n : ℕ) → isPort n ≡ true → (place : ℕ) → requestIn (portFor next n .places) place ≡ cond (endsIn st bytes n place) emptyPlace (requestIn (portFor st n .places) place)
-  -- a HID++ report ends one at most
-  pub one : isHidppRead (readRule bytes) ≡ true → (n m i j : ℕ) → isPort n ≡ true → isPort m ≡ true → endsIn st bytes n i ≡ true → endsIn st bytes m j ≡ true → (n ≡ m) × (i ≡ j)
+  -- a HID++ report ends one at most on the port that it names
+  pub one : isHidppRead (readRule bytes) ≡ true → (i j : ℕ) → endsIn st bytes (byte bytes 1) i ≡ true → endsIn st bytes (byte bytes 1) j ≡ true → i ≡ j
+  -- on another port it ends all that wait where it gives another serial of that device, and none else
+  pub beside : isHidppRead (readRule bytes) ≡ true → (n : ℕ) → isPort n ≡ true → ¬ (byte bytes 1 ≡ n) → (i : ℕ) → (endsIn st bytes n i ≡ true) ↔ (Swaps st bytes n × (isEmpty (requestIn (portFor st n .places) i) ≡ false))

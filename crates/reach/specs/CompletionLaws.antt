@@ -2,29 +2,35 @@
 use Prim.Native.Nat.{ℕ}
 use mathlib.Core.Path.{_≡_, refl, sym, _∙_, ap, subst}
 use mathlib.Core.Logic.{_↔_}
-use mathlib.Core.Bool.{Bool, true, false, cond, not, _&&_, true≢false, false≢true}
+use mathlib.Core.Bool.{Bool, true, false, cond, not, _&&_, _||_, true≢false, false≢true}
 use mathlib.Core.List.{List}
 use native.Mathlib.Omega.{arith}
+use lib.ListN.{length, length-set}
 use lib.Dec.{eqb}
-use borrow.Author.Tests.{eqb-true, eqb-false, ne-eqb}
+use borrow.Author.Tests.{eqb-true, eqb-false, eq-eqb, ne-eqb, not-true}
 use Rattle.report.specs.ChoicesLaws.{both}
-use Rattle.report.specs.Ports.{isPort}
+use Rattle.report.specs.Ports.{isDevice, isPort}
 use Rattle.report.specs.Sizes.{byte, hidppStart, djStart}
 use Rattle.report.specs.Reading as reading
 use Rattle.report.specs.Reading.{Report, Read, reportFrom, readRule}
 use Rattle.port.specs.declared.Port.{Port}
 use Rattle.port.specs.declared.Request.{Request}
-use Rattle.port.specs.Records.{emptyPlace, freshPort, madeFresh, requestIn, withPlaces, withPairing, withLink, withReports}
-use Rattle.port.specs.Places.{isEmpty, matches}
+use Rattle.port.specs.declared.Serial.{Serial}
+use Rattle.port.specs.declared.Serial.the-variants.{Unknown, Known}
+use Rattle.port.specs.Records.{emptyPlace, freshPort, madeFresh, requestIn, withPlaces, withPairing, withSerial, withLink, withReports}
+use Rattle.port.specs.Places.{isEmpty, matches, countWaiting}
 use Rattle.port.specs.Waiting.{endedAt}
-use Rattle.port.specs.Answers.{Answer, refused, notice, emptyList, Result}
+use Rattle.port.specs.Answers.{Answer, refused, reply, stray, plain, event, failed, radio, notice, emptyList, Result}
 use Rattle.hidpp.specs.declared.Message.{Message}
 use Rattle.hidpp.specs.HidppTaking.{takeHidpp, messageOf, isError, errorFits, named2, named3, code}
+use Rattle.serial.specs.Serials.{Given, noSerial, serialOf, givenBy, isAnother, SerialResult, serialRule}
+use Rattle.serial.specs.Giving.{Gives}
+use Rattle.serial.specs.GivingLaws.{given-exactly}
 use Rattle.dj.specs.DjTaking.{takeDj}
 use Rattle.station.specs.declared.Station.{Station}
-use Rattle.station.specs.Stations.{positionOf, withPort}
-use Rattle.station.specs.StationsLaws.{position-within}
-use Rattle.station.specs.StationTaking.{takeBy, takeRule}
+use Rattle.station.specs.Stations.{portCount, positionOf, withPort}
+use Rattle.station.specs.StationsLaws.{device-number, position-within}
+use Rattle.station.specs.StationTaking.{storedAt, withDrops, alsoAt, takeBy, takeRule}
 use Rattle.sequence.specs.Readings.{ReadFits}
 use Rattle.sequence.specs.ReadingsLaws.{dj-port, read-fits}
 use Rattle.sequence.specs.Remaining.{view}
@@ -35,7 +41,7 @@ use Rattle.reach.specs.SoundLaws.{reply-records, error-records, event-re
 use Rattle.reach.specs.CallCases.{Waits, Unasked, failedPlace, repliedPlace, IsStray, unnamed, register, reserved, late, IsPlain, notification, major1, IsEvent, software0, HidppCase, givesFailed, givesReply, givesStray, givesPlain, givesEvent, radioUnpaired, radioUndeclared, linkUnpaired, DjCase, djRefused, radioTaken, unpairs, pairedSame, pairedNew, linkSet, otherNotice}
 use Rattle.reach.specs.CallCasesLaws.{not-so, hidpp-case, dj-case}
 use Rattle.reach.specs.EndsLaws.{Emptied, hit, miss, emptied-at, fresh-empty}
-use Rattle.reach.specs.Completion.{isReply, isFailure, isHidppRead, isFitting, makesFresh, readEnds, Completion}
+use Rattle.reach.specs.Completion.{isReply, isFailure, isHidppRead, isFitting, makesFresh, answersRequest, swaps, readEnds, Swaps, Completion}
 
 -- at its port: when the answer is a reply, and when an error, and what becomes of each place
 record HidppAt (p : Port) (m : Message) (r : Result) : Type 0 where
@@ -131,6 +137,41 @@ module _ (p : Port) (r : Report) (bytes : List ℕ) (s : SoundPlaces (p .places)
   dj-at (linkSet e u) = dj-keeps refl refl (simp e) refl
   dj-at (otherNotice l) = dj-keeps refl refl (other-kind (omega arith) (omega arith)) refl
 
+or-false : (b : Bool) → (b || false) ≡ b
+or-false true = refl
+or-false false = refl
+
+-- a drop count makes an answer neither a reply nor an error, nor the other way round
+drops-reply : (dropped : ℕ) (a : Answer) → (isReply (withDrops dropped a) ≡ isReply a) × (isFailure (withDrops dropped a) ≡ isFailure a)
+drops-reply dropped (refused number) = (refl, refl)
+drops-reply dropped (reply before a) = (refl, refl)
+drops-reply dropped (stray a) = (refl, refl)
+drops-reply dropped (plain a) = (refl, refl)
+drops-reply dropped (event a) = (refl, refl)
+drops-reply dropped (failed a code kind) = (refl, refl)
+drops-reply dropped (radio kind start size) = (refl, refl)
+drops-reply dropped (notice n) = (refl, refl)
+
+-- the places of a port that is told a serial: another one empties all
+serial-places : (p : Port) (number : ℕ) → SoundPlaces (p .places) → (i : ℕ) → requestIn (serialRule p number .port .places) i ≡ cond ((p .paired && isAnother (p .serial) number) && not (isEmpty (requestIn (p .places) i))) emptyPlace (requestIn (p .places) i)
+unfolding serialRule withSerial withPairing madeFresh
+serial-places p number s i = go (p .paired) (isAnother (p .serial) number)
+  where
+    emptied : (c : Bool) → isEmpty (requestIn (p .places) i) ≡ c → emptyPlace ≡ cond (not c) emptyPlace (requestIn (p .places) i)
+    emptied true h = sym (s .each i .empty h)
+    emptied false h = refl
+
+    kept : Bool → Bool → SerialResult
+    kept a b =
+        cond (not a) (record { dropped = 0; port = p })
+        (cond b (record { dropped = countWaiting (p .places); port = withSerial (withPairing (madeFresh p) (p .wpid) (p .reports)) (Known number) }) (record { dropped = 0; port = withSerial p (Known number) }))
+
+    go : (a b : Bool) → requestIn (kept a b .port .places) i ≡ cond ((a && b) && not (isEmpty (requestIn (p .places) i))) emptyPlace (requestIn (p .places) i)
+    go false b = refl
+    go true false = refl
+    go true true =
+        fresh-empty 0 p (withSerial (withPairing (madeFresh p) (p .wpid) (p .reports)) (Known number)) refl i ∙ emptied (isEmpty (requestIn (p .places) i)) refl
+
 module _ (st : Station) (k : Reached st) (bytes : List ℕ) where
   places-of : (n : ℕ) → SoundPlaces (view n st .places)
   places-of n = k .each (positionOf n) (position-within n) .waiting
@@ -145,46 +186,163 @@ module _ (st : Station) (k : Reached st) (bytes : List ℕ) where
       go false z =
           ap (λ (p : Port). requestIn (p .places) i) (elsewhere st (positionOf number) (positionOf n) q (λ y. eqb-false number n z (sym (one-number n number h d y))))
 
+  seven-first : (q : Port) → length (withPort st (positionOf (byte bytes 1)) q .ports) ≡ portCount
+  unfolding withPort
+  seven-first q = length-set (st .ports) (positionOf (byte bytes 1)) q ∙ k .all
+
   abbrev Done : Answer → Station → Type 0
   Done = Completion st bytes
 
   -- nothing is taken
-  none-taken : (answer : Answer) → isReply answer ≡ false → isFailure answer ≡ false → isHidppRead (readRule bytes) ≡ false → ((n : ℕ) (p : Port) (r : Request) → readEnds (readRule bytes) bytes n p r ≡ false) → Done answer st
+  none-taken : (answer : Answer) → isReply answer ≡ false → isFailure answer ≡ false → isHidppRead (readRule bytes) ≡ false → ((n : ℕ) (p : Port) (r : Request) → readEnds (view (byte bytes 1) st) (readRule bytes) bytes n p r ≡ false) → Done answer st
   none-taken answer a b e f =
       record {
         replies = (λ q. absurd (false≢true (sym a ∙ q)), λ q. absurd (true≢false (sym (q .0) ∙ e)));
         fails = (λ q. absurd (false≢true (sym b ∙ q)), λ q. absurd (true≢false (sym (q .0) ∙ e)));
         ends = λ n h i. simp (f n (view n st) (requestIn (view n st .places) i));
         one = λ q. absurd (true≢false (sym q ∙ e));
+        beside = λ q. absurd (true≢false (sym q ∙ e));
       }
 
   -- a HID++ report: what is read is what the bytes say
+  abbrev report : Report
+  report = reportFrom hidppStart bytes
+
   abbrev message : Message
-  message = messageOf (reportFrom hidppStart bytes) bytes
+  message = messageOf report bytes
 
-  hidpp-one : (n m i j : ℕ) (x : Report) → readEnds (reading.hidpp x) bytes n (view n st) (requestIn (view n st .places) i) ≡ true → readEnds (reading.hidpp x) bytes m (view m st) (requestIn (view m st .places) j) ≡ true → (n ≡ m) × (i ≡ j)
-  hidpp-one n m i j x p q =
-      let f = both _ _ p in
-      let g = both _ _ q in
-      let a : byte bytes 1 ≡ n = eqb-true _ _ (f .0) in
-      let b : byte bytes 1 ≡ m = eqb-true _ _ (g .0) in
-      let e : n ≡ m = sym a ∙ b in
-      (e, go (isError (byte bytes 2)) (f .1) (subst (λ (y : ℕ). cond (isError (byte bytes 2)) (isFitting bytes && matches (byte bytes 3) (byte bytes 4) (requestIn (view y st .places) j)) (matches (byte bytes 2) (byte bytes 3) (requestIn (view y st .places) j)) ≡ true) (sym e) (g .1)))
+  abbrev own : Port
+  own = view (byte bytes 1) st
+
+  abbrev given : Given
+  given = givenBy own report bytes
+
+  -- the request that the report answers
+  abbrev answered : Request → Bool
+  answered r = cond (isError (byte bytes 2)) (isFitting bytes && matches (byte bytes 3) (byte bytes 4) r) (matches (byte bytes 2) (byte bytes 3) r)
+
+  -- only a report on port 255 gives a serial, and it is not 255's
+  given-fits : (device number : ℕ) → given ≡ serialOf device number → (byte bytes 1 ≡ 255) × (isDevice device ≡ true)
+  unfolding reportFrom
+  given-fits device number q = let g = given-exactly own report bytes device number .0 q in (g .receiver, g .named)
+
+  swaps-other : (n : ℕ) → byte bytes 1 ≡ n → (p : Port) → swaps n p given ≡ false
+  swaps-other n e p = go given (given-fits)
     where
-      go : (c : Bool) → cond c (isFitting bytes && matches (byte bytes 3) (byte bytes 4) (requestIn (view n st .places) i)) (matches (byte bytes 2) (byte bytes 3) (requestIn (view n st .places) i)) ≡ true → cond c (isFitting bytes && matches (byte bytes 3) (byte bytes 4) (requestIn (view n st .places) j)) (matches (byte bytes 2) (byte bytes 3) (requestIn (view n st .places) j)) ≡ true → i ≡ j
-      go true y z =
-          places-of n .unique (byte bytes 3) (byte bytes 4) i j (both (isFitting bytes) (matches (byte bytes 3) (byte bytes 4) (requestIn (view n st .places) i)) y .1) (both (isFitting bytes) (matches (byte bytes 3) (byte bytes 4) (requestIn (view n st .places) j)) z .1)
-      go false y z = places-of n .unique (byte bytes 2) (byte bytes 3) i j y z
+      go : (g : Given) → ((device number : ℕ) → g ≡ serialOf device number → (byte bytes 1 ≡ 255) × (isDevice device ≡ true)) → swaps n p g ≡ false
+      go noSerial f = refl
+      go (serialOf device number) f =
+          let h = f device number refl in
+          simp (ne-eqb device n (λ q. let z : device ≡ 255 = q ∙ sym e ∙ h .0 in omega (arith, device-number device (h .1) .1)))
 
-  hidpp-done : {x : Result} → readRule bytes ≡ reading.hidpp (reportFrom hidppStart bytes) → isPort (byte bytes 1) ≡ true → HidppAt (view (byte bytes 1) st) message x → Done (x .answer) (withPort st (positionOf (byte bytes 1)) (x .port))
+  -- on the port that it names it ends the one that it answers
+  on-own : (n : ℕ) → byte bytes 1 ≡ n → (p : Port) (r : Request) → readEnds own (reading.hidpp report) bytes n p r ≡ answered r
+  on-own n e p r = cc (eq-eqb (byte bytes 1) n e, swaps-other n e p, or-false (answered r))
+
+  -- on any other those of a device that has another serial now
+  on-other : (n : ℕ) → eqb (byte bytes 1) n ≡ false → (p : Port) (r : Request) → readEnds own (reading.hidpp report) bytes n p r ≡ swaps n p given && not (isEmpty r)
+  on-other n e p r = simp e
+
+  hidpp-one : (i j : ℕ) → readEnds own (reading.hidpp report) bytes (byte bytes 1) own (requestIn (own .places) i) ≡ true → readEnds own (reading.hidpp report) bytes (byte bytes 1) own (requestIn (own .places) j) ≡ true → i ≡ j
+  hidpp-one i j p q =
+      go (isError (byte bytes 2)) (sym (on-own (byte bytes 1) refl own (requestIn (own .places) i)) ∙ p) (sym (on-own (byte bytes 1) refl own (requestIn (own .places) j)) ∙ q)
+    where
+      go : (c : Bool) → cond c (isFitting bytes && matches (byte bytes 3) (byte bytes 4) (requestIn (own .places) i)) (matches (byte bytes 2) (byte bytes 3) (requestIn (own .places) i)) ≡ true → cond c (isFitting bytes && matches (byte bytes 3) (byte bytes 4) (requestIn (own .places) j)) (matches (byte bytes 2) (byte bytes 3) (requestIn (own .places) j)) ≡ true → i ≡ j
+      go true y z =
+          places-of (byte bytes 1) .unique (byte bytes 3) (byte bytes 4) i j (both (isFitting bytes) (matches (byte bytes 3) (byte bytes 4) (requestIn (own .places) i)) y .1) (both (isFitting bytes) (matches (byte bytes 3) (byte bytes 4) (requestIn (own .places) j)) z .1)
+      go false y z = places-of (byte bytes 1) .unique (byte bytes 2) (byte bytes 3) i j y z
+
+  -- another serial, in the words of the documents
+  swapped : (n : ℕ) → (swaps n (view n st) given ≡ true) ↔ Swaps st bytes n
+  unfolding reportFrom
+  swapped n = (to given refl, from)
+    where
+      other : (s : Serial) (number : ℕ) → isAnother s number ≡ true → (known : ℕ) × ((s ≡ Known known) × (¬ (known ≡ number)))
+      other Unknown number e = absurd (false≢true e)
+      other (Known known) number e = (known, (refl, eqb-false known number (not-true (eqb known number) e)))
+
+      to : (g : Given) → given ≡ g → swaps n (view n st) g ≡ true → Swaps st bytes n
+      to noSerial q e = absurd (false≢true e)
+      to (serialOf device number) q e =
+          let f = both (eqb device n) (view n st .paired && isAnother (view n st .serial) number) e in
+          let h = both (view n st .paired) (isAnother (view n st .serial) number) (f .1) in
+          let k = other (view n st .serial) number (h .1) in
+          let g = given-exactly own report bytes device number .0 q in
+          record {
+            known = k .0;
+            number = number;
+            given = subst (λ (d : ℕ). Gives (view 255 st) report bytes d number) (eqb-true device n (f .0)) (subst (λ (i : ℕ). Gives (view i st) report bytes device number) (given-fits device number q .0) g);
+            paired = h .0;
+            before = k .1 .0;
+            differs = k .1 .1;
+          }
+
+      from : Swaps st bytes n → swaps n (view n st) given ≡ true
+      from s =
+          let on : byte bytes 1 ≡ 255 = s .given .receiver in
+          let g : given ≡ serialOf n (s .number) = given-exactly own report bytes n (s .number) .1 (subst (λ (i : ℕ). Gives (view i st) report bytes n (s .number)) (sym on) (s .given)) in
+          cc (g, eq-eqb n n refl, s .paired, s .before, ne-eqb (s .known) (s .number) (s .differs))
+
+  hidpp-beside : (n : ℕ) → ¬ (byte bytes 1 ≡ n) → (i : ℕ) → (readEnds own (reading.hidpp report) bytes n (view n st) (requestIn (view n st .places) i) ≡ true) ↔ (Swaps st bytes n × (isEmpty (requestIn (view n st .places) i) ≡ false))
+  hidpp-beside n differs i =
+      let at = on-other n (ne-eqb (byte bytes 1) n differs) (view n st) (requestIn (view n st .places) i) in (
+        λ e. let h = both (swaps n (view n st) given) (not (isEmpty (requestIn (view n st .places) i))) (sym at ∙ e) in (swapped n .0 (h .0), not-true _ (h .1)),
+        λ s. at ∙ cc (swapped n .1 (s .0), s .1),
+      )
+
+  abbrev Ends : ℕ → ℕ → Station → Type 0
+  Ends n i next = requestIn (view n next .places) i ≡ cond (readEnds own (reading.hidpp report) bytes n (view n st) (requestIn (view n st .places) i)) emptyPlace (requestIn (view n st .places) i)
+
+  -- the places of every port after it, by the serial that it gives
+  hidpp-places : {x : Result} → isPort (byte bytes 1) ≡ true → HidppAt own message x → (g : Given) → given ≡ g → (n : ℕ) → isPort n ≡ true → (i : ℕ) → Ends n i (alsoAt st g (storedAt st (positionOf (byte bytes 1)) x) .station)
+  unfolding messageOf reportFrom
+  hidpp-places {x} d h noSerial q n port i =
+      ends-at (byte bytes 1) n (x .port) d port (λ j p r. answered r) (h .place) i
+      ∙ ap (λ (b : Bool). cond b emptyPlace (requestIn (view n st .places) i)) (sym (ap (λ (g : Given). answersRequest bytes n (requestIn (view n st .places) i) || (swaps n (view n st) g && not (isEmpty (requestIn (view n st .places) i)))) q ∙ or-false (answersRequest bytes n (requestIn (view n st .places) i))))
+  hidpp-places {x} d h (serialOf device number) q n port i = go (eqb device n) refl
+    where
+      fits : (byte bytes 1 ≡ 255) × (isDevice device ≡ true)
+      fits = given-fits device number q
+
+      a-port : isPort device ≡ true
+      a-port = ap (λ (b : Bool). b || eqb device 255) (fits .1)
+
+      first : Station
+      first = withPort st (positionOf (byte bytes 1)) (x .port)
+
+      by-given : (b c : Bool) → answersRequest bytes n (requestIn (view n st .places) i) ≡ b → swaps n (view n st) (serialOf device number) && not (isEmpty (requestIn (view n st .places) i)) ≡ c → (b || c) ≡ readEnds own (reading.hidpp report) bytes n (view n st) (requestIn (view n st .places) i)
+      by-given b c e f = cc (q, e, f)
+
+      go : (b : Bool) → eqb device n ≡ b → Ends n i (withPort (withPort st (positionOf (byte bytes 1)) (x .port)) (positionOf device) (serialRule (view device st) number .port))
+      go true e =
+          let is : device ≡ n = eqb-true device n e in
+          let away : eqb (byte bytes 1) n ≡ false = ne-eqb (byte bytes 1) n (λ z. let y : device ≡ 255 = is ∙ sym z ∙ fits .0 in omega (arith, device-number device (fits .1) .1)) in
+          ap (λ (m : ℕ). requestIn (view m (withPort (withPort st (positionOf (byte bytes 1)) (x .port)) (positionOf device) (serialRule (view device st) number .port)) .places) i) (sym is)
+          ∙ ap (λ (p : Port). requestIn (p .places) i) (stored (withPort st (positionOf (byte bytes 1)) (x .port)) (positionOf device) (serialRule (view device st) number .port) (position-within device) (seven-first (x .port)))
+          ∙ ap (λ (m : ℕ). requestIn (serialRule (view m st) number .port .places) i) is
+          ∙ serial-places (view n st) number (places-of n) i
+          ∙ ap (λ (b : Bool). cond b emptyPlace (requestIn (view n st .places) i)) (by-given false ((view n st .paired && isAnother (view n st .serial) number) && not (isEmpty (requestIn (view n st .places) i))) (simp away) (simp e))
+      go false e =
+          ap (λ (p : Port). requestIn (p .places) i) (elsewhere (withPort st (positionOf (byte bytes 1)) (x .port)) (positionOf device) (positionOf n) (serialRule (view device st) number .port) (λ y. eqb-false device n e (sym (one-number n device port a-port y))))
+          ∙ ends-at (byte bytes 1) n (x .port) d port (λ j p r. answered r) (h .place) i
+          ∙ ap (λ (b : Bool). cond b emptyPlace (requestIn (view n st .places) i)) (sym (or-false (answersRequest bytes n (requestIn (view n st .places) i))) ∙ by-given (answersRequest bytes n (requestIn (view n st .places) i)) false refl (simp e))
+
+  -- its answer, with or without a drop count
+  hidpp-answer : (x : Result) (g : Given) → (isReply (alsoAt st g (storedAt st (positionOf (byte bytes 1)) x) .answer) ≡ isReply (x .answer)) × (isFailure (alsoAt st g (storedAt st (positionOf (byte bytes 1)) x) .answer) ≡ isFailure (x .answer))
+  hidpp-answer x noSerial = (refl, refl)
+  hidpp-answer x (serialOf device number) = drops-reply (serialRule (view device st) number .dropped) (x .answer)
+
+  hidpp-done : {x : Result} → readRule bytes ≡ reading.hidpp report → isPort (byte bytes 1) ≡ true → HidppAt own message x → Done (alsoAt st given (storedAt st (positionOf (byte bytes 1)) x) .answer) (alsoAt st given (storedAt st (positionOf (byte bytes 1)) x) .station)
   unfolding messageOf reportFrom
   hidpp-done {x} e d h =
       let read : isHidppRead (readRule bytes) ≡ true = ap isHidppRead e in
+      let a = hidpp-answer x given in
       record {
-        replies = (λ q. (read, h .reply .0 q), λ q. h .reply .1 (q .1));
-        fails = (λ q. (read, h .failure .0 q), λ q. h .failure .1 (q .1));
-        ends = λ n g i. subst (λ (y : Read). requestIn (view n (withPort st (positionOf (byte bytes 1)) (x .port)) .places) i ≡ cond (readEnds y bytes n (view n st) (requestIn (view n st .places) i)) emptyPlace (requestIn (view n st .places) i)) (sym e) (ends-at (byte bytes 1) n (x .port) d g (λ j p r. cond (isError (byte bytes 2)) (isFitting bytes && matches (byte bytes 3) (byte bytes 4) r) (matches (byte bytes 2) (byte bytes 3) r)) (h .place) i);
-        one = λ q n m i j a b y z. hidpp-one n m i j (reportFrom hidppStart bytes) (subst (λ (t : Read). readEnds t bytes n (view n st) (requestIn (view n st .places) i) ≡ true) e y) (subst (λ (t : Read). readEnds t bytes m (view m st) (requestIn (view m st .places) j) ≡ true) e z);
+        replies = (λ q. (read, h .reply .0 (sym (a .0) ∙ q)), λ q. a .0 ∙ h .reply .1 (q .1));
+        fails = (λ q. (read, h .failure .0 (sym (a .1) ∙ q)), λ q. a .1 ∙ h .failure .1 (q .1));
+        ends = λ n g i. subst (λ (y : Read). requestIn (view n (alsoAt st given (storedAt st (positionOf (byte bytes 1)) x) .station) .places) i ≡ cond (readEnds own y bytes n (view n st) (requestIn (view n st .places) i)) emptyPlace (requestIn (view n st .places) i)) (sym e) (hidpp-places d h given refl n g i);
+        one = λ q i j y z. hidpp-one i j (subst (λ (t : Read). readEnds own t bytes (byte bytes 1) own (requestIn (own .places) i) ≡ true) e y) (subst (λ (t : Read). readEnds own t bytes (byte bytes 1) own (requestIn (own .places) j) ≡ true) e z);
+        beside = λ q n g differs i. subst (λ (t : Read). (readEnds own t bytes n (view n st) (requestIn (view n st .places) i) ≡ true) ↔ (Swaps st bytes n × (isEmpty (requestIn (view n st .places) i) ≡ false))) (sym e) (hidpp-beside n differs i);
       }
 
   dj-done : {x : Result} → readRule bytes ≡ reading.dj (reportFrom djStart bytes) → isPort (byte bytes 1) ≡ true → DjAt (view (byte bytes 1) st) (byte bytes 2) bytes x → Done (x .answer) (withPort st (positionOf (byte bytes 1)) (x .port))
@@ -194,18 +352,19 @@ module _ (st : Station) (k : Reached st) (bytes : List ℕ) where
       record {
         replies = (λ q. absurd (false≢true (sym (h .reply) ∙ q)), λ q. absurd (true≢false (sym (q .0) ∙ read)));
         fails = (λ q. absurd (false≢true (sym (h .failure) ∙ q)), λ q. absurd (true≢false (sym (q .0) ∙ read)));
-        ends = λ n g i. subst (λ (y : Read). requestIn (view n (withPort st (positionOf (byte bytes 1)) (x .port)) .places) i ≡ cond (readEnds y bytes n (view n st) (requestIn (view n st .places) i)) emptyPlace (requestIn (view n st .places) i)) (sym e) (ends-at (byte bytes 1) n (x .port) d g (λ j p r. makesFresh p (byte bytes 2) bytes && not (isEmpty r)) (h .place) i);
+        ends = λ n g i. subst (λ (y : Read). requestIn (view n (withPort st (positionOf (byte bytes 1)) (x .port)) .places) i ≡ cond (readEnds (view (byte bytes 1) st) y bytes n (view n st) (requestIn (view n st .places) i)) emptyPlace (requestIn (view n st .places) i)) (sym e) (ends-at (byte bytes 1) n (x .port) d g (λ j p r. makesFresh p (byte bytes 2) bytes && not (isEmpty r)) (h .place) i);
         one = λ q. absurd (true≢false (sym q ∙ read));
+        beside = λ q. absurd (true≢false (sym q ∙ read));
       }
 
   take-done : (x : Read) → readRule bytes ≡ x → ReadFits bytes x → Done (takeBy x bytes st .answer) (takeBy x bytes st .station)
   unfolding takeBy reportFrom
   take-done (reading.refused number) e n =
-      none-taken (refused number) refl refl (ap isHidppRead e) (λ i p r. ap (λ (y : Read). readEnds y bytes i p r) e)
+      none-taken (refused number) refl refl (ap isHidppRead e) (λ i p r. ap (λ (y : Read). readEnds (view (byte bytes 1) st) y bytes i p r) e)
   take-done (reading.emptyList r) e n =
-      none-taken (notice emptyList) refl refl (ap isHidppRead e) (λ i p q. ap (λ (y : Read). readEnds y bytes i p q) e)
+      none-taken (notice emptyList) refl refl (ap isHidppRead e) (λ i p q. ap (λ (y : Read). readEnds (view (byte bytes 1) st) y bytes i p q) e)
   take-done (reading.hidpp r) e n =
-      subst (λ (y : Report). readRule bytes ≡ reading.hidpp y → isPort (y .device) ≡ true → Done (takeHidpp (view (y .device) st) (messageOf y bytes) .answer) (withPort st (positionOf (y .device)) (takeHidpp (view (y .device) st) (messageOf y bytes) .port))) (sym (n .1 .1)) (λ z d. hidpp-done z d (hidpp-at _ _ (places-of (byte bytes 1)) (hidpp-case _ (places-of (byte bytes 1) .all) message))) e (n .0)
+      subst (λ (y : Report). readRule bytes ≡ reading.hidpp y → isPort (y .device) ≡ true → Done (takeBy (reading.hidpp y) bytes st .answer) (takeBy (reading.hidpp y) bytes st .station)) (sym (n .1 .1)) (λ z d. hidpp-done z d (hidpp-at _ _ (places-of (byte bytes 1)) (hidpp-case _ (places-of (byte bytes 1) .all) message))) e (n .0)
   take-done (reading.dj r) e n =
       subst (λ (y : Report). readRule bytes ≡ reading.dj y → isPort (y .device) ≡ true → Done (takeDj (view (y .device) st) y bytes .answer) (withPort st (positionOf (y .device)) (takeDj (view (y .device) st) y bytes .port))) (sym (n .1 .1)) (λ z d. dj-done z d (dj-at _ (reportFrom djStart bytes) bytes (places-of (byte bytes 1)) (dj-case _ (reportFrom djStart bytes) bytes))) e (dj-port (r .device) (r .byte2) (n .1 .0))
 

@@ -1,10 +1,11 @@
--- Document 01, "Writing", "Taking a HID++ report" and "Taking a DJ report": what a call makes of each place of a port, and what its answer says of the requests that ended. Each count is that of places emptied.
+-- Document 01, "Writing", "Taking a HID++ report" and "Taking a DJ report", and document 02, Ask 1: what a call makes of each place of a port, and what its answer says of the requests that ended. Each count is that of places emptied.
 use Prim.Native.Nat.{ℕ, _+_, _-_, _<_}
 use mathlib.Core.Path.{_≡_}
 use mathlib.Core.Bool.{Bool, true, false, cond, not, _&&_}
 use mathlib.Core.List.{List, [], _∷_}
 use lib.ListN.{getD}
 use lib.Dec.{eqb}
+use Rattle.report.specs.Sizes.{byte}
 use Rattle.frame.specs.Writing as writing
 use Rattle.port.specs.declared.Port.{Port}
 use Rattle.port.specs.declared.Request.{Request}
@@ -13,6 +14,7 @@ use Rattle.port.specs.Places.{isEmpty, matches, sumOver, countWaiting}
 use Rattle.port.specs.Ticks.{withTicks}
 use Rattle.port.specs.Waiting as waiting
 use Rattle.port.specs.Answers.{Answer, refused, reply, stray, plain, event, failed, radio, notice, Notice, unpaired, paired, emptyList, link, other}
+use Rattle.serial.specs.Serials.{deviceFor}
 use Rattle.request.specs.Requesting.{waitingRequest}
 use Rattle.station.specs.Stations.{positionOf}
 use Rattle.sequence.specs.Steps.{Call, take, request, cancel, tick, write, CallAnswer, taken, written, cancelled, ticked}
@@ -32,7 +34,7 @@ wayNumber byDrop = 4
 abbrev pub isWay : Way → Way → Bool
 isWay w v = eqb (wayNumber w) (wayNumber v)
 
--- what an answer says of requests that ended
+-- what an answer says of requests that ended on a port
 pub data Ending : Type 0 where
   nothing : Ending
   -- the one with these bytes 2 and 3 on this port, in this way
@@ -49,15 +51,24 @@ noticeEnding emptyList = nothing
 noticeEnding (link port up) = nothing
 noticeEnding (other port kind) = nothing
 
-abbrev pub takeEnding : Answer → Ending
-takeEnding (refused number) = nothing
-takeEnding (reply a) = one byReply (a .port) (a .byte2) (a .byte3)
-takeEnding (stray a) = nothing
-takeEnding (plain a) = nothing
-takeEnding (event a) = nothing
-takeEnding (failed a code kind) = one byError (a .port) (a .byte2) (a .byte3)
-takeEnding (radio kind start size) = nothing
-takeEnding (notice n) = noticeEnding n
+-- a reply ends one request on its own port; its drop count is that of the device which the report's first parameter is for
+abbrev pub takeEnding : ℕ → List ℕ → Answer → Ending
+takeEnding n bytes (refused number) = nothing
+takeEnding n bytes (reply count a) =
+    cond (eqb (a .port) n) (one byReply (a .port) (a .byte2) (a .byte3)) (dropped (deviceFor (byte bytes 4)) count)
+takeEnding n bytes (stray a) = nothing
+takeEnding n bytes (plain a) = nothing
+takeEnding n bytes (event a) = nothing
+takeEnding n bytes (failed a code kind) = one byError (a .port) (a .byte2) (a .byte3)
+takeEnding n bytes (radio kind start size) = nothing
+takeEnding n bytes (notice x) = noticeEnding x
+
+abbrev pub takenEnding : ℕ → Call → Answer → Ending
+takenEnding n (take bytes) a = takeEnding n bytes a
+takenEnding n (request device byte2 byte3 ticks params offset lent) a = nothing
+takenEnding n (cancel device byte2 byte3) a = nothing
+takenEnding n tick a = nothing
+takenEnding n (write writer offset lent) a = nothing
 
 -- a cancel answers only that it was done: which request it ended, the call says
 abbrev pub cancelEnding : ℕ → ℕ → ℕ → waiting.CancelAnswer → Ending
@@ -71,11 +82,12 @@ cancelledEnding (cancel device byte2 byte3) a = cancelEnding device byte2 byte3 
 cancelledEnding tick a = nothing
 cancelledEnding (write writer offset lent) a = nothing
 
-abbrev pub endingOf : Call → CallAnswer → Ending
-endingOf c (taken a) = takeEnding a
-endingOf c (written a) = nothing
-endingOf c (cancelled a) = cancelledEnding c a
-endingOf c (ticked counts) = expired counts
+-- what a call's answer says of the requests of the port of a number
+abbrev pub endingOf : ℕ → Call → CallAnswer → Ending
+endingOf n c (taken a) = takenEnding n c a
+endingOf n c (written a) = nothing
+endingOf n c (cancelled a) = cancelledEnding c a
+endingOf n c (ticked counts) = expired counts
 
 -- whether it ends this request, which waits on the port of a number, in this way
 abbrev pub endsBy : Way → ℕ → Ending → Request → Bool
@@ -126,10 +138,10 @@ isTick (write writer offset lent) = false
 
 -- what a call with its answer makes of one place of the port of a number: it stays, unless a request waits there and the call is a tick; is lowered by a tick, is filled by this very request, or is emptied in one of the ways
 pub data Fate (n : ℕ) (c : Call) (a : CallAnswer) (before after : Request) : Type 0 where
-  stays : ((w : Way) → endsBy w n (endingOf c a) before ≡ false) → (isTick c && not (isEmpty before)) ≡ false → after ≡ before → Fate n c a before after
+  stays : ((w : Way) → endsBy w n (endingOf n c a) before ≡ false) → (isTick c && not (isEmpty before)) ≡ false → after ≡ before → Fate n c a before after
   lowered : c ≡ tick → 1 < before .ticks → after ≡ withTicks before (before .ticks - 1) → Fate n c a before after
   filled : (byte2 byte3 ticks : ℕ) (params : List ℕ) (offset : ℕ) (lent : List ℕ) → c ≡ request n byte2 byte3 ticks params offset lent → isWritten a ≡ true → isEmpty before ≡ true → after ≡ waitingRequest byte2 byte3 ticks params → Fate n c a before after
-  emptied : (w : Way) → endsBy w n (endingOf c a) before ≡ true → isEmpty before ≡ false → after ≡ emptyPlace → Fate n c a before after
+  emptied : (w : Way) → endsBy w n (endingOf n c a) before ≡ true → isEmpty before ≡ false → after ≡ emptyPlace → Fate n c a before after
 
 -- the requests that wait on a port
 abbrev pub waitingOn : Port → ℕ
@@ -140,14 +152,14 @@ pub record EndsAt (n : ℕ) (c : Call) (a : CallAnswer) (p q : Port) : Type 0 wh
   -- each place
   pub fate : (place : ℕ) → Fate n c a (requestIn (p .places) place) (requestIn (q .places) place)
   -- for each way, as many places are emptied in it as the answer says
-  pub counted : (w : Way) → sumOver (λ r. oneIf (endsBy w n (endingOf c a) r)) (p .places) ≡ endedBy w n (endingOf c a)
+  pub counted : (w : Way) → sumOver (λ r. oneIf (endsBy w n (endingOf n c a) r)) (p .places) ≡ endedBy w n (endingOf n c a)
   -- what waited or begins waits or ends
-  pub balance : waitingOn q + endedInAll n (endingOf c a) ≡ waitingOn p + begunOn n c a
+  pub balance : waitingOn q + endedInAll n (endingOf n c a) ≡ waitingOn p + begunOn n c a
 
 -- over a transcript, from the answers given: how many requests ended on the port of a number in each way, and how many began
 unfoldable pub endedIn : Way → ℕ → List Entry → ℕ
 endedIn w n [] = 0
-endedIn w n (e ∷ es) = endedBy w n (endingOf (e .call) (e .result .answer)) + endedIn w n es
+endedIn w n (e ∷ es) = endedBy w n (endingOf n (e .call) (e .result .answer)) + endedIn w n es
 
 unfoldable pub begunIn : ℕ → List Entry → ℕ
 begunIn n [] = 0

@@ -17,19 +17,26 @@ use Rattle.reach.specs.Ends.{Way, byReply, byError, byExpiry, byCancel, 
 -- on a port: those ended by reply, by error, expired, cancelled, dropped
 abbrev ended : ℕ → Call → CallAnswer → List ℕ
 ended n c a =
-    endedBy byReply n (endingOf c a)
-    ∷ endedBy byError n (endingOf c a)
-    ∷ endedBy byExpiry n (endingOf c a)
-    ∷ endedBy byCancel n (endingOf c a)
-    ∷ endedBy byDrop n (endingOf c a)
+    endedBy byReply n (endingOf n c a)
+    ∷ endedBy byError n (endingOf n c a)
+    ∷ endedBy byExpiry n (endingOf n c a)
+    ∷ endedBy byCancel n (endingOf n c a)
+    ∷ endedBy byDrop n (endingOf n c a)
     ∷ []
 
 abbrev on2 : About
 on2 = record { port = 2; byte2 = 0; byte3 = 0x11; start = 4; size = 3 }
 
+abbrev on255 : About
+on255 = record { port = 255; byte2 = 0x83; byte3 = 0xB5; start = 4; size = 16 }
+
 record Ended : Type 0 where
-  replied : ended 2 (take []) (taken (reply on2)) ≡ 1 ∷ 0 ∷ 0 ∷ 0 ∷ 0 ∷ []
-  elsewhere : ended 3 (take []) (taken (reply on2)) ≡ 0 ∷ 0 ∷ 0 ∷ 0 ∷ 0 ∷ []
+  replied : ended 2 (take []) (taken (reply 0 on2)) ≡ 1 ∷ 0 ∷ 0 ∷ 0 ∷ 0 ∷ []
+  elsewhere : ended 3 (take []) (taken (reply 0 on2)) ≡ 0 ∷ 0 ∷ 0 ∷ 0 ∷ 0 ∷ []
+  -- a reply on 255 of which the first parameter is for device 2: there is its drop count, and on 255 the request that it ends
+  told : ended 2 (take (0x11 ∷ 255 ∷ 0x83 ∷ 0xB5 ∷ 0x31 ∷ [])) (taken (reply 3 on255)) ≡ 0 ∷ 0 ∷ 0 ∷ 0 ∷ 3 ∷ []
+  told-on255 : ended 255 (take (0x11 ∷ 255 ∷ 0x83 ∷ 0xB5 ∷ 0x31 ∷ [])) (taken (reply 3 on255)) ≡ 1 ∷ 0 ∷ 0 ∷ 0 ∷ 0 ∷ []
+  told-elsewhere : ended 1 (take (0x11 ∷ 255 ∷ 0x83 ∷ 0xB5 ∷ 0x31 ∷ [])) (taken (reply 3 on255)) ≡ 0 ∷ 0 ∷ 0 ∷ 0 ∷ 0 ∷ []
   stray : ended 2 (take []) (taken (stray on2)) ≡ 0 ∷ 0 ∷ 0 ∷ 0 ∷ 0 ∷ []
   error : ended 2 (take []) (taken (failed on2 1 0x8F)) ≡ 0 ∷ 1 ∷ 0 ∷ 0 ∷ 0 ∷ []
   expired : ended 2 tick (ticked (0 ∷ 3 ∷ 0 ∷ 0 ∷ 0 ∷ 0 ∷ 4 ∷ [])) ≡ 0 ∷ 0 ∷ 3 ∷ 0 ∷ 0 ∷ []
@@ -45,6 +52,9 @@ all-ended =
     record {
       replied = refl;
       elsewhere = refl;
+      told = refl;
+      told-on255 = refl;
+      told-elsewhere = refl;
       stray = refl;
       error = refl;
       expired = refl;
@@ -60,10 +70,10 @@ module _ (n : ℕ) (c : Call) (a : CallAnswer) (p q : Port) (e : EndsAt n c a p 
   each-place : (place : ℕ) → Fate n c a (requestIn (p .places) place) (requestIn (q .places) place)
   each-place = e .fate
 
-  each-way : (w : Way) → sumOver (λ r. oneIf (endsBy w n (endingOf c a) r)) (p .places) ≡ endedBy w n (endingOf c a)
+  each-way : (w : Way) → sumOver (λ r. oneIf (endsBy w n (endingOf n c a) r)) (p .places) ≡ endedBy w n (endingOf n c a)
   each-way = e .counted
 
-  nothing-lost : waitingOn q + endedInAll n (endingOf c a) ≡ waitingOn p + begunOn n c a
+  nothing-lost : waitingOn q + endedInAll n (endingOf n c a) ≡ waitingOn p + begunOn n c a
   nothing-lost = e .balance
 
 -- a tick leaves no count as it was

@@ -8,22 +8,24 @@ use native.Mathlib.Decide.{ℕ-discrete}
 use lib.ListN.{length, set}
 use lib.Seq.{getD-set-same, getD-set-other}
 use lib.Dec.{eqb}
-use borrow.Author.Tests.{eqb-true, eq-eqb, ne-eqb, not-true}
+use borrow.Author.Tests.{eqb-true, eq-eqb, ne-eqb, not-true, not-false}
 use Rattle.report.specs.ChoicesLaws.{by-case, both}
+use Rattle.report.specs.Sizes.{byte}
 use Rattle.report.specs.Reading.{Report}
 use Rattle.port.specs.declared.Port.{Port}
 use Rattle.port.specs.declared.Request.{Request}
-use Rattle.port.specs.Records.{placeCount, emptyPlace, freshPort, madeFresh, requestIn, withPlaces, withPairing, withLink, withReports}
+use Rattle.port.specs.Records.{placeCount, emptyPlace, freshPort, madeFresh, requestIn, withPlaces, withPairing, withSerial, withLink, withReports}
 use Rattle.port.specs.Places.{isEmpty, matches, sumOver, oneIfWaiting, countWaiting}
 use Rattle.port.specs.Waiting as waiting
 use Rattle.port.specs.Waiting.{waitingAt, endedAt}
-use Rattle.port.specs.Answers.{Result}
+use Rattle.port.specs.Answers.{reply, Result}
 use Rattle.hidpp.specs.declared.Message.{Message}
-use Rattle.hidpp.specs.HidppTaking.{named2, named3, code}
+use Rattle.hidpp.specs.HidppTaking.{carried, named2, named3, code}
+use Rattle.serial.specs.Serials.{deviceFor, SerialResult}
 use Rattle.reach.specs.ListsLaws.{found-passes, sum-set, each-replicate}
 use Rattle.reach.specs.Sound.{SoundPlaces}
 use Rattle.reach.specs.SoundLaws.{empty-fails, reply-records, error-records, event-records}
-use Rattle.reach.specs.CallCases.{Waits, failedPlace, repliedPlace, HidppCase, givesFailed, givesReply, givesStray, givesPlain, givesEvent, DjCase, djRefused, radioTaken, unpairs, pairedSame, pairedNew, linkSet, otherNotice, CancelCase, refused13, cancelDone, Placed}
+use Rattle.reach.specs.CallCases.{Waits, failedPlace, repliedPlace, HidppCase, givesFailed, givesReply, givesStray, givesPlain, givesEvent, repliedPort, SerialCase, keepsNone, firstSerial, sameSerial, otherSerial, DjCase, djRefused, radioTaken, unpairs, pairedSame, pairedNew, linkSet, otherNotice, CancelCase, refused13, cancelDone, Placed}
 use Rattle.reach.specs.CallCasesLaws.{and-false, not-so, waits-found}
 use Rattle.reach.specs.Ends.{Way, byReply, byError, byExpiry, byCancel, byDrop, wayNumber, isWay, Ending, nothing, one, dropped, expired, takeEnding, cancelEnding, endsBy, oneIf, endedBy, endedInAll, waitingOn}
 
@@ -74,24 +76,36 @@ pub record EndingAt (n : ℕ) (x : Ending) (p q : Port) : Type 0 where
   pub counted : (w : Way) → sumOver (λ r. oneIf (endsBy w n x r)) (p .places) ≡ endedBy w n x
   pub balance : waitingOn q + endedInAll n x ≡ waitingOn p
 
--- what an answer says is about another port
+-- what an answer says is about another port, or counts none
 abbrev pub Elsewhere : ℕ → Ending → Type 0
 Elsewhere n nothing = Unit {0}
 Elsewhere n (one way port byte2 byte3) = eqb port n ≡ false
-Elsewhere n (dropped port count) = eqb port n ≡ false
+Elsewhere n (dropped port count) = (eqb port n && not (eqb count 0)) ≡ false
 Elsewhere n (expired counts) = ⊥
 
 module _ (n : ℕ) (p q : Port) where
   apart-ends : (x : Ending) → Elsewhere n x → (w : Way) (r : Request) → endsBy w n x r ≡ false
   apart-ends nothing h w r = refl
   apart-ends (one way port byte2 byte3) h w r = simp h
-  apart-ends (dropped port count) h w r = simp h
+  apart-ends (dropped port count) h w r = go (eqb port n) (isWay w byDrop) (isEmpty r) (eqb count 0) h
+    where
+      go : (a b c d : Bool) → (a && not d) ≡ false → (a && (b && (not c && not d))) ≡ false
+      go false b c d h = refl
+      go true false c d h = refl
+      go true true c false h = absurd (true≢false h)
+      go true true true true h = refl
+      go true true false true h = refl
   apart-ends (expired counts) h w r = absurd h
 
   apart-counts : (x : Ending) → Elsewhere n x → (w : Way) → endedBy w n x ≡ 0
   apart-counts nothing h w = refl
   apart-counts (one way port byte2 byte3) h w = simp h
-  apart-counts (dropped port count) h w = simp h
+  apart-counts (dropped port count) h w = go (eqb port n) (isWay w byDrop) h
+    where
+      go : (a b : Bool) → (a && not (eqb count 0)) ≡ false → cond (a && b) count 0 ≡ 0
+      go false b h = refl
+      go true false h = refl
+      go true true h = eqb-true count 0 (not-false (eqb count 0) h)
   apart-counts (expired counts) h w = absurd h
 
   -- nothing ends here
@@ -109,19 +123,9 @@ module _ (n : ℕ) (p q : Port) where
   is-n : eqb n n ≡ true
   is-n = eq-eqb n n refl
 
-  -- a notice that counts none
-  none-dropped : (w : Way) (r : Request) → endsBy w n (dropped n 0) r ≡ false
-  none-dropped w r = go (eqb n n) (isWay w byDrop) (isEmpty r)
-    where
-      go : (a b c : Bool) → (a && (b && (not c && false))) ≡ false
-      go false b c = refl
-      go true false c = refl
-      go true true false = refl
-      go true true true = refl
-
+  -- an answer that counts none
   drops-none : q .places ≡ p .places → EndingAt n (dropped n 0) p q
-  drops-none e =
-      quiet (dropped n 0) none-dropped (λ w. by-case (λ (m : ℕ). m ≡ 0) (eqb n n && isWay w byDrop) (λ z. refl) (λ z. refl)) e
+  drops-none e = elsewhere (dropped n 0) (and-false (eqb n n)) e
 
   -- one that counts all that waited
   all-counted : (b : Bool) → eqb (waitingOn p) 0 ≡ b → sumOver (λ r. oneIf (not (isEmpty r) && not b)) (p .places) ≡ waitingOn p
@@ -238,17 +242,29 @@ module _ (n : ℕ) (way : Way) (byte2 byte3 : ℕ) (p q : Port) (s : SoundPlaces
 
 -- a HID++ report, a DJ report and a cancel at their ports
 module _ (p : Port) (s : SoundPlaces (p .places)) where
-  pub hidpp-ends : {m : Message} {r : Result} → HidppCase p m r → EndingAt (m .device .0) (takeEnding (r .answer)) p (r .port)
+  pub reply-ends : (bytes : List ℕ) (m : Message) (count : ℕ) → Waits p (m .byte2 .0) (m .byte3) → EndingAt (m .device .0) (takeEnding (m .device .0) bytes (carried (reply count) m)) p (repliedPort p m)
   unfolding endedAt withPlaces
-  hidpp-ends {m} (givesFailed h) =
-      one-ends (m .device .0) byError (named2 m) (named3 m) p _ s (h .1 .1) (error-records (endedAt p (failedPlace p m)) (m .byte2 .0) (named2 m) (named3 m) (code m) .places)
-  hidpp-ends {m} (givesReply h) =
-      one-ends (m .device .0) byReply (m .byte2 .0) (m .byte3) p _ s (h .1) (reply-records (endedAt p (repliedPlace p m)) m (requestIn (p .places) (repliedPlace p m)) .places)
-  hidpp-ends (givesStray h) = elsewhere _ p _ nothing tt refl
-  hidpp-ends (givesPlain h) = elsewhere _ p _ nothing tt refl
-  hidpp-ends {m} (givesEvent h) = elsewhere _ p _ nothing tt (event-records p m .places)
+  reply-ends bytes m count h =
+      simp (eq-eqb (m .device .0) (m .device .0) refl) (one-ends (m .device .0) byReply (m .byte2 .0) (m .byte3) p (repliedPort p m) s h (reply-records (endedAt p (repliedPlace p m)) m (requestIn (p .places) (repliedPlace p m)) .places))
 
-  pub dj-ends : {r : Report} {bytes : List ℕ} {x : Result} → DjCase p r bytes x → EndingAt (r .device) (takeEnding (x .answer)) p (x .port)
+  pub hidpp-ends : (bytes : List ℕ) {m : Message} {r : Result} → HidppCase p m r → EndingAt (m .device .0) (takeEnding (m .device .0) bytes (r .answer)) p (r .port)
+  unfolding endedAt withPlaces
+  hidpp-ends bytes {m} (givesFailed h) =
+      one-ends (m .device .0) byError (named2 m) (named3 m) p _ s (h .1 .1) (error-records (endedAt p (failedPlace p m)) (m .byte2 .0) (named2 m) (named3 m) (code m) .places)
+  hidpp-ends bytes {m} (givesReply h) = reply-ends bytes m 0 (h .1)
+  hidpp-ends bytes (givesStray h) = elsewhere _ p _ nothing tt refl
+  hidpp-ends bytes (givesPlain h) = elsewhere _ p _ nothing tt refl
+  hidpp-ends bytes {m} (givesEvent h) = elsewhere _ p _ nothing tt (event-records p m .places)
+
+  -- a serial at its device's port
+  pub serial-ends : (n number : ℕ) {x : SerialResult} → SerialCase p number x → EndingAt n (dropped n (x .dropped)) p (x .port)
+  unfolding withSerial withPairing madeFresh
+  serial-ends n number (keepsNone h) = drops-none n p _ refl
+  serial-ends n number (firstSerial h e) = drops-none n p _ refl
+  serial-ends n number (sameSerial h e) = drops-none n p _ refl
+  serial-ends n number (otherSerial known h e differs) = drops-all n p _ s refl
+
+  pub dj-ends : {r : Report} {bytes : List ℕ} {x : Result} → DjCase p r bytes x → EndingAt (r .device) (takeEnding (r .device) bytes (x .answer)) p (x .port)
   unfolding withLink withReports withPairing madeFresh
   dj-ends (djRefused h) = elsewhere _ p _ nothing tt refl
   dj-ends (radioTaken l u d) = elsewhere _ p _ nothing tt refl
@@ -264,19 +280,19 @@ module _ (p : Port) (s : SoundPlaces (p .places)) where
   cancel-ends device {byte2} {byte3} (cancelDone w) = one-ends device byCancel byte2 byte3 p _ s w refl
 
 -- on another port
-pub hidpp-apart : (n : ℕ) {p : Port} {m : Message} {r : Result} → HidppCase p m r → eqb (m .device .0) n ≡ false → Elsewhere n (takeEnding (r .answer))
-hidpp-apart n (givesFailed h) e = e
-hidpp-apart n (givesReply h) e = e
-hidpp-apart n (givesStray h) e = tt
-hidpp-apart n (givesPlain h) e = tt
-hidpp-apart n (givesEvent h) e = tt
+pub hidpp-apart : (n : ℕ) (bytes : List ℕ) {p : Port} {m : Message} {r : Result} → HidppCase p m r → eqb (m .device .0) n ≡ false → Elsewhere n (takeEnding n bytes (r .answer))
+hidpp-apart n bytes (givesFailed h) e = e
+hidpp-apart n bytes (givesReply h) e = simp e (and-false (eqb (deviceFor (byte bytes 4)) n))
+hidpp-apart n bytes (givesStray h) e = tt
+hidpp-apart n bytes (givesPlain h) e = tt
+hidpp-apart n bytes (givesEvent h) e = tt
 
-pub dj-apart : (n : ℕ) {p : Port} {r : Report} {bytes : List ℕ} {x : Result} → DjCase p r bytes x → eqb (r .device) n ≡ false → Elsewhere n (takeEnding (x .answer))
+pub dj-apart : (n : ℕ) {p : Port} {r : Report} {bytes : List ℕ} {x : Result} → DjCase p r bytes x → eqb (r .device) n ≡ false → Elsewhere n (takeEnding n bytes (x .answer))
 dj-apart n (djRefused h) e = tt
 dj-apart n (radioTaken l u d) e = tt
-dj-apart n (unpairs q) e = e
-dj-apart n (pairedSame q z) e = e
-dj-apart n (pairedNew q z) e = e
+dj-apart n (unpairs q) e = simp e
+dj-apart n (pairedSame q z) e = simp e
+dj-apart n (pairedNew q z) e = simp e
 dj-apart n (linkSet q u) e = tt
 dj-apart n (otherNotice l) e = tt
 

@@ -1,19 +1,23 @@
--- Demand 2: records change only as document 01 lists. Which fields of a port each call may change, by its answer.
+-- Demand 2: records change only as document 01 lists, and document 02, Ask 1. Which fields of a port each call may change, by its answer.
 use Prim.Native.Nat.{ℕ}
 use mathlib.Core.Path.{_≡_}
-use mathlib.Core.Bool.{Bool, true, false, not, _&&_, _||_}
+use mathlib.Core.Bool.{Bool, true, false, cond, not, _&&_, _||_}
+use mathlib.Core.List.{List}
 use lib.Dec.{eqb}
-use Rattle.report.specs.Sizes.{byte, function}
+use Rattle.report.specs.Sizes.{byte, hidppStart, function}
+use Rattle.report.specs.Reading.{reportFrom}
 use Rattle.port.specs.declared.Port.{Port}
 use Rattle.port.specs.Records.{batteryStatus, wirelessStatus}
 use Rattle.port.specs.Answers.{About, error1, Answer, refused, reply, stray, plain, event, failed, radio, notice, Notice, unpaired, paired, emptyList, link, other}
 use Rattle.hidpp.specs.HidppRecords.{holds, isPing, isGetFeature}
+use Rattle.serial.specs.Serials.{Given, noSerial, serialOf, givenBy, isAnother}
 use Rattle.dj.specs.DjTaking.{isPairedWith}
+use Rattle.reach.specs.Completion.{isReply}
 use Rattle.sequence.specs.Steps.{Call, take, request, cancel, tick, write, CallAnswer, taken, written, cancelled, ticked}
 
 -- what a port holds
 pub data Field : Type 0 where
-  pairing wpid bitfield linkUp version features battery places : Field
+  pairing wpid bitfield linkUp version features battery serial places : Field
 
 abbrev pub Same : Field → Port → Port → Type 0
 Same pairing p q = q .paired ≡ p .paired
@@ -23,6 +27,7 @@ Same linkUp p q = q .up ≡ p .up
 Same version p q = q .version ≡ p .version
 Same features p q = q .features ≡ p .features
 Same battery p q = q .battery ≡ p .battery
+Same serial p q = q .serial ≡ p .serial
 Same places p q = q .places ≡ p .places
 
 abbrev pub fieldNumber : Field → ℕ
@@ -33,7 +38,8 @@ fieldNumber linkUp = 3
 fieldNumber version = 4
 fieldNumber features = 5
 fieldNumber battery = 6
-fieldNumber places = 7
+fieldNumber serial = 7
+fieldNumber places = 8
 
 abbrev pub is : Field → Field → Bool
 is g f = eqb (fieldNumber g) (fieldNumber f)
@@ -67,7 +73,7 @@ noticeLists p (other port kind) f = false
 
 abbrev pub takeLists : Port → Answer → Field → Bool
 takeLists p (refused number) f = false
-takeLists p (reply a) f = replyLists p a f
+takeLists p (reply dropped a) f = replyLists p a f
 takeLists p (stray a) f = false
 takeLists p (plain a) f = false
 takeLists p (event a) f = eventLists p a f
@@ -89,10 +95,33 @@ touches n (cancel device byte2 byte3) = eqb device n
 touches n tick = true
 touches n (write writer offset lent) = false
 
--- whether document 01 lists the field of the port p of the number n for this call with this answer
-abbrev pub lists : ℕ → Port → Call → CallAnswer → Field → Bool
-lists n p c a f = touches n c && answerLists p a f
+-- the serial of a device that is paired is set; where it is another one, all but pairing, WPID and bitfield may change
+abbrev pub serialLists : ℕ → Port → Given → Field → Bool
+serialLists n p noSerial f = false
+serialLists n p (serialOf device number) f =
+    eqb device n && (p .paired && (is serial f || (isAnother (p .serial) number && not (is pairing f || (is wpid f || is bitfield f)))))
+
+-- the serial that a reply gives, where port 255 is w before it
+abbrev pub takenGives : Port → List ℕ → Answer → Given
+takenGives w bytes a = cond (isReply a) (givenBy w (reportFrom hidppStart bytes) bytes) noSerial
+
+abbrev pub answerGives : Port → List ℕ → CallAnswer → Given
+answerGives w bytes (taken a) = takenGives w bytes a
+answerGives w bytes (written a) = noSerial
+answerGives w bytes (cancelled a) = noSerial
+answerGives w bytes (ticked counts) = noSerial
+
+abbrev pub callGives : Port → Call → CallAnswer → Given
+callGives w (take bytes) a = answerGives w bytes a
+callGives w (request device byte2 byte3 ticks params offset lent) a = noSerial
+callGives w (cancel device byte2 byte3) a = noSerial
+callGives w tick a = noSerial
+callGives w (write writer offset lent) a = noSerial
+
+-- whether the documents list the field of the port p of the number n for this call with this answer, where port 255 is w
+abbrev pub lists : ℕ → Port → Port → Call → CallAnswer → Field → Bool
+lists n w p c a f = (touches n c && answerLists p a f) || serialLists n p (callGives w c a) f
 
 -- from the port p to the port q: a field that is not listed stays
-abbrev pub ChangesListed : ℕ → Call → CallAnswer → Port → Port → Type 0
-ChangesListed n c a p q = (f : Field) → lists n p c a f ≡ false → Same f p q
+abbrev pub ChangesListed : ℕ → Call → CallAnswer → Port → Port → Port → Type 0
+ChangesListed n c a w p q = (f : Field) → lists n w p c a f ≡ false → Same f p q

@@ -1,25 +1,27 @@
 -- Demand 2: a field that document 01 does not list for a call stays, by the call's cases.
 use Prim.Native.Nat.{ℕ}
 use mathlib.Core.Path.{_≡_, refl, sym, _∙_, ap}
-use mathlib.Core.Bool.{Bool, true, false, not, _&&_, true≢false, false≢true}
+use mathlib.Core.Bool.{Bool, true, false, not, _&&_, _||_, true≢false, false≢true}
 use mathlib.Core.List.{List}
 use lib.Dec.{leb, ltb, eqb}
+use borrow.Author.Tests.{eq-eqb, ne-eqb}
 use Rattle.report.specs.ChoicesLaws.{by-case}
 use Rattle.report.specs.Reading.{Report}
 use Rattle.report.specs.declared.FeatureIndex.{FeatureIndex}
 use Rattle.port.specs.declared.Port.{Port}
 use Rattle.port.specs.declared.Request.{Request}
-use Rattle.port.specs.Records.{featureCount, batteryStatus, wirelessStatus, slotOf, requestIn, featureAt, withVersion, withBattery, withFeatures, withPlaces, withLink, withReports}
+use Rattle.port.specs.Records.{featureCount, batteryStatus, wirelessStatus, slotOf, madeFresh, requestIn, featureAt, withVersion, withBattery, withSerial, withFeatures, withPlaces, withLink, withReports, withPairing}
 use Rattle.port.specs.Waiting as waiting
 use Rattle.port.specs.Waiting.{endedAt}
 use Rattle.port.specs.Answers.{error1, Result}
 use Rattle.hidpp.specs.declared.Message.{Message}
 use Rattle.hidpp.specs.HidppRecords.{maxLevel, isPing, isGetFeature, isBatteryReply, isVersion1, isEvent0, askedFeature, withFoundFeature, withBatteryFrom, afterReply, afterError, afterBatteryEvent, afterWirelessEvent, afterEvent}
 use Rattle.hidpp.specs.HidppTaking.{about, named2, named3, code, kindOf}
+use Rattle.serial.specs.Serials.{serialOf, SerialResult}
 use Rattle.request.specs.Requesting.{RequestAt}
 use Rattle.station.specs.StationCalls.{tickedPort}
-use Rattle.reach.specs.CallCases.{failedPlace, repliedPlace, HidppCase, givesFailed, givesReply, givesStray, givesPlain, givesEvent, DjCase, djRefused, radioTaken, unpairs, pairedSame, pairedNew, linkSet, otherNotice, RequestCase, requestRefused, accepted, CancelCase, refused13, cancelDone}
-use Rattle.reach.specs.Fields.{Field, pairing, wpid, bitfield, linkUp, version, features, battery, places, Same, is, replyLists, errorLists, eventLists, takeLists}
+use Rattle.reach.specs.CallCases.{failedPlace, repliedPlace, HidppCase, givesFailed, givesReply, givesStray, givesPlain, givesEvent, SerialCase, keepsNone, firstSerial, sameSerial, otherSerial, DjCase, djRefused, radioTaken, unpairs, pairedSame, pairedNew, linkSet, otherNotice, RequestCase, requestRefused, accepted, CancelCase, refused13, cancelDone}
+use Rattle.reach.specs.Fields.{Field, pairing, wpid, bitfield, linkUp, version, features, battery, serial, places, Same, is, replyLists, errorLists, eventLists, takeLists, serialLists}
 
 -- what is not listed stays
 pub data Keeps (listed : Field → Bool) (p q : Port) : Type 0 where
@@ -30,8 +32,8 @@ unlisted-kept (keeps h) = h
 
 -- field by field
 module _ {listed : Field → Bool} {p q : Port} where
-  each : (listed pairing ≡ false → q .paired ≡ p .paired) → (listed wpid ≡ false → q .wpid ≡ p .wpid) → (listed bitfield ≡ false → q .reports ≡ p .reports) → (listed linkUp ≡ false → q .up ≡ p .up) → (listed version ≡ false → q .version ≡ p .version) → (listed features ≡ false → q .features ≡ p .features) → (listed battery ≡ false → q .battery ≡ p .battery) → (listed places ≡ false → q .places ≡ p .places) → Keeps listed p q
-  each a b c d e f g h = keeps go
+  each : (listed pairing ≡ false → q .paired ≡ p .paired) → (listed wpid ≡ false → q .wpid ≡ p .wpid) → (listed bitfield ≡ false → q .reports ≡ p .reports) → (listed linkUp ≡ false → q .up ≡ p .up) → (listed version ≡ false → q .version ≡ p .version) → (listed features ≡ false → q .features ≡ p .features) → (listed battery ≡ false → q .battery ≡ p .battery) → (listed serial ≡ false → q .serial ≡ p .serial) → (listed places ≡ false → q .places ≡ p .places) → Keeps listed p q
+  each a b c d e f g s h = keeps go
     where
       go : (x : Field) → listed x ≡ false → Same x p q
       go pairing = a
@@ -41,10 +43,11 @@ module _ {listed : Field → Bool} {p q : Port} where
       go version = e
       go features = f
       go battery = g
+      go serial = s
       go places = h
 
 pub keeps-all : (listed : Field → Bool) (p : Port) → Keeps listed p p
-keeps-all listed p = each (λ h. refl) (λ h. refl) (λ h. refl) (λ h. refl) (λ h. refl) (λ h. refl) (λ h. refl) (λ h. refl)
+keeps-all listed p = each (λ h. refl) (λ h. refl) (λ h. refl) (λ h. refl) (λ h. refl) (λ h. refl) (λ h. refl) (λ h. refl) (λ h. refl)
 
 -- a listed field may change
 may {ℓ} : {X : Type ℓ} {b : Bool} → b ≡ true → b ≡ false → X
@@ -60,16 +63,16 @@ module _ (p : Port) (place : ℕ) where
 
     ends-only : Replied gone
     unfolding endedAt withPlaces
-    ends-only = each (λ h. refl) (λ h. refl) (λ h. refl) (λ h. refl) (λ h. refl) (λ h. refl) (λ h. refl) (may refl)
+    ends-only = each (λ h. refl) (λ h. refl) (λ h. refl) (λ h. refl) (λ h. refl) (λ h. refl) (λ h. refl) (λ h. refl) (may refl)
 
     reply-keeps : (r : Request) → Replied (afterReply gone m r)
     unfolding afterReply withVersion withFoundFeature withFeatures withBatteryFrom withBattery endedAt withPlaces
     reply-keeps r =
-        by-case Replied (isPing (m .byte2 .0) (m .byte3)) (λ e. each (λ h. refl) (λ h. refl) (λ h. refl) (λ h. refl) (may (simp e)) (λ h. refl) (λ h. refl) (may refl))
+        by-case Replied (isPing (m .byte2 .0) (m .byte3)) (λ e. each (λ h. refl) (λ h. refl) (λ h. refl) (λ h. refl) (may (simp e)) (λ h. refl) (λ h. refl) (λ h. refl) (may refl))
         (λ e. by-case Replied (isGetFeature (m .byte2 .0) (m .byte3))
-        (λ q. by-case Replied (ltb (slotOf (askedFeature r)) featureCount) (λ z. each (λ h. refl) (λ h. refl) (λ h. refl) (λ h. refl) (λ h. refl) (may (simp q)) (λ h. refl) (may refl)) (λ z. ends-only))
+        (λ q. by-case Replied (ltb (slotOf (askedFeature r)) featureCount) (λ z. each (λ h. refl) (λ h. refl) (λ h. refl) (λ h. refl) (λ h. refl) (may (simp q)) (λ h. refl) (λ h. refl) (may refl)) (λ z. ends-only))
         (λ q. by-case Replied (isBatteryReply gone m)
-        (λ z. by-case Replied (leb (m .first .0) maxLevel && leb (m .first .1) maxLevel) (λ y. each (λ h. refl) (λ h. refl) (λ h. refl) (λ h. refl) (λ h. refl) (λ h. refl) (may (simp z)) (may refl)) (λ y. ends-only))
+        (λ z. by-case Replied (leb (m .first .0) maxLevel && leb (m .first .1) maxLevel) (λ y. each (λ h. refl) (λ h. refl) (λ h. refl) (λ h. refl) (λ h. refl) (λ h. refl) (may (simp z)) (λ h. refl) (may refl)) (λ y. ends-only))
         (λ z. ends-only)))
 
   -- an error carries its kind, 0x8F or 0xFF
@@ -87,8 +90,8 @@ module _ (p : Port) (place : ℕ) where
     error-keeps : Failed (afterError gone kind byte2 byte3 code)
     unfolding afterError withVersion endedAt withPlaces
     error-keeps =
-        by-case Failed (isVersion1 kind byte2 byte3 code) (λ e. each (λ h. refl) (λ h. refl) (λ h. refl) (λ h. refl) (may (is-8F e)) (λ h. refl) (λ h. refl) (may refl))
-        (λ e. each (λ h. refl) (λ h. refl) (λ h. refl) (λ h. refl) (λ h. refl) (λ h. refl) (λ h. refl) (may refl))
+        by-case Failed (isVersion1 kind byte2 byte3 code) (λ e. each (λ h. refl) (λ h. refl) (λ h. refl) (λ h. refl) (may (is-8F e)) (λ h. refl) (λ h. refl) (λ h. refl) (may refl))
+        (λ e. each (λ h. refl) (λ h. refl) (λ h. refl) (λ h. refl) (λ h. refl) (λ h. refl) (λ h. refl) (λ h. refl) (may refl))
 
 module _ (p : Port) (m : Message) where
   abbrev Seen : Port → Type 0
@@ -106,7 +109,7 @@ module _ (p : Port) (m : Message) where
       record {
         same-features = refl;
         as-is = keeps-all _ p;
-        linked = λ u. each (λ h. refl) (λ h. refl) (λ h. refl) (may (simp u)) (λ h. refl) (λ h. refl) (λ h. refl) (λ h. refl);
+        linked = λ u. each (λ h. refl) (λ h. refl) (λ h. refl) (may (simp u)) (λ h. refl) (λ h. refl) (λ h. refl) (λ h. refl) (λ h. refl);
       }
 
   after-battery : Battery (afterBatteryEvent p m)
@@ -115,8 +118,8 @@ module _ (p : Port) (m : Message) where
       by-case Battery (isEvent0 p batteryStatus m)
       (λ e. by-case Battery (leb (m .first .0) maxLevel && leb (m .first .1) maxLevel) (λ q. record {
         same-features = refl;
-        as-is = each (λ h. refl) (λ h. refl) (λ h. refl) (λ h. refl) (λ h. refl) (λ h. refl) (may (simp e)) (λ h. refl);
-        linked = λ u. each (λ h. refl) (λ h. refl) (λ h. refl) (may (simp u)) (λ h. refl) (λ h. refl) (may (simp e)) (λ h. refl);
+        as-is = each (λ h. refl) (λ h. refl) (λ h. refl) (λ h. refl) (λ h. refl) (λ h. refl) (may (simp e)) (λ h. refl) (λ h. refl);
+        linked = λ u. each (λ h. refl) (λ h. refl) (λ h. refl) (may (simp u)) (λ h. refl) (λ h. refl) (may (simp e)) (λ h. refl) (λ h. refl);
       }) (λ q. unset))
       (λ e. unset)
 
@@ -139,28 +142,41 @@ hidpp-keeps {p} {m} (givesEvent h) = event-keeps p m
 -- everything is listed
 everything : {listed : Field → Bool} (p q : Port) → ((f : Field) → listed f ≡ true) → Keeps listed p q
 everything p q all =
-    each (may (all pairing)) (may (all wpid)) (may (all bitfield)) (may (all linkUp)) (may (all version)) (may (all features)) (may (all battery)) (may (all places))
+    each (may (all pairing)) (may (all wpid)) (may (all bitfield)) (may (all linkUp)) (may (all version)) (may (all features)) (may (all battery)) (may (all serial)) (may (all places))
 
 pub dj-keeps : {p : Port} {r : Report} {bytes : List ℕ} {x : Result} → DjCase p r bytes x → Keeps (takeLists p (x .answer)) p (x .port)
 unfolding withLink withReports
 dj-keeps {p} (djRefused h) = keeps-all _ p
-dj-keeps (radioTaken l u d) = each (λ h. refl) (λ h. refl) (λ h. refl) (may refl) (λ h. refl) (λ h. refl) (λ h. refl) (λ h. refl)
+dj-keeps (radioTaken l u d) = each (λ h. refl) (λ h. refl) (λ h. refl) (may refl) (λ h. refl) (λ h. refl) (λ h. refl) (λ h. refl) (λ h. refl)
 dj-keeps {p} (unpairs e) = everything p _ (λ f. refl)
-dj-keeps {p} (pairedSame e s) = each (λ h. refl) (λ h. refl) (may (simp s)) (λ h. refl) (λ h. refl) (λ h. refl) (λ h. refl) (λ h. refl)
+dj-keeps {p} (pairedSame e s) = each (λ h. refl) (λ h. refl) (may (simp s)) (λ h. refl) (λ h. refl) (λ h. refl) (λ h. refl) (λ h. refl) (λ h. refl)
 dj-keeps {p} (pairedNew e s) = everything p _ (λ f. simp s)
-dj-keeps (linkSet e u) = each (λ h. refl) (λ h. refl) (λ h. refl) (may refl) (λ h. refl) (λ h. refl) (λ h. refl) (λ h. refl)
+dj-keeps (linkSet e u) = each (λ h. refl) (λ h. refl) (λ h. refl) (may refl) (λ h. refl) (λ h. refl) (λ h. refl) (λ h. refl) (λ h. refl)
 dj-keeps {p} (otherNotice l) = keeps-all _ p
+
+-- a serial at its device's port
+pub serial-keeps : {p : Port} (n : ℕ) {number : ℕ} {x : SerialResult} → SerialCase p number x → Keeps (serialLists n p (serialOf n number)) p (x .port)
+unfolding withSerial withPairing madeFresh
+serial-keeps {p} n (keepsNone h) = keeps-all _ p
+serial-keeps n (firstSerial h e) =
+    each (λ z. refl) (λ z. refl) (λ z. refl) (λ z. refl) (λ z. refl) (λ z. refl) (λ z. refl) (may (simp (eq-eqb n n refl, h))) (λ z. refl)
+serial-keeps {p} n (sameSerial h e) = keeps-all _ p
+serial-keeps {p} n {number} (otherSerial known h e differs) =
+    each (λ z. sym h) (λ z. refl) (λ z. refl) (may (other linkUp refl)) (may (other version refl)) (may (other features refl)) (may (other battery refl)) (may (other serial refl)) (may (other places refl))
+  where
+    other : (f : Field) → (is serial f || not (is pairing f || (is wpid f || is bitfield f))) ≡ true → serialLists n p (serialOf n number) f ≡ true
+    other f q = simp (eq-eqb n n refl, h, e, ne-eqb known number differs) q
 
 pub request-keeps : {p : Port} {device byte2 byte3 ticks : ℕ} {params : List ℕ} {offset : ℕ} {lent : List ℕ} {r : RequestAt} → RequestCase p device byte2 byte3 ticks params offset lent r → Keeps (is places) p (r .port)
 unfolding withPlaces
 request-keeps {p} (requestRefused h) = keeps-all _ p
-request-keeps (accepted f n l) = each (λ h. refl) (λ h. refl) (λ h. refl) (λ h. refl) (λ h. refl) (λ h. refl) (λ h. refl) (may refl)
+request-keeps (accepted f n l) = each (λ h. refl) (λ h. refl) (λ h. refl) (λ h. refl) (λ h. refl) (λ h. refl) (λ h. refl) (λ h. refl) (may refl)
 
 pub cancel-keeps : {p : Port} {byte2 byte3 : ℕ} {r : waiting.CancelResult} → CancelCase p byte2 byte3 r → Keeps (is places) p (r .port)
 unfolding endedAt withPlaces
 cancel-keeps {p} (refused13 n) = keeps-all _ p
-cancel-keeps (cancelDone w) = each (λ h. refl) (λ h. refl) (λ h. refl) (λ h. refl) (λ h. refl) (λ h. refl) (λ h. refl) (may refl)
+cancel-keeps (cancelDone w) = each (λ h. refl) (λ h. refl) (λ h. refl) (λ h. refl) (λ h. refl) (λ h. refl) (λ h. refl) (λ h. refl) (may refl)
 
 pub tick-keeps : (p : Port) → Keeps (is places) p (tickedPort p)
 unfolding tickedPort withPlaces
-tick-keeps p = each (λ h. refl) (λ h. refl) (λ h. refl) (λ h. refl) (λ h. refl) (λ h. refl) (λ h. refl) (may refl)
+tick-keeps p = each (λ h. refl) (λ h. refl) (λ h. refl) (λ h. refl) (λ h. refl) (λ h. refl) (λ h. refl) (λ h. refl) (may refl)

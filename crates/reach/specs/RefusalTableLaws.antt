@@ -15,7 +15,7 @@ use Rattle.report.specs.Reading as reading
 use Rattle.report.specs.Reading.{Report, Read, isReserved, goesDown, isEmptyList, hasPort, reportFrom, hidppRule, djRule, familyRule, readRule}
 use Rattle.frame.specs.Writing as writing
 use Rattle.port.specs.declared.Port.{Port}
-use Rattle.port.specs.Answers.{Result}
+use Rattle.port.specs.Answers.{About, reply, Result}
 use Rattle.port.specs.Waiting as waiting
 use Rattle.listing.specs.Listing.{listing, listingRule}
 use Rattle.hidpp.specs.declared.Message.{Message}
@@ -26,7 +26,7 @@ use Rattle.sequence.specs.ReadingsLaws.{read-fits}
 use Rattle.sequence.specs.Steps.{Writer, switch, getPaired, led, list, Call, take, write, taken, written, cancelled, Outcome, writerRule, step}
 use Rattle.sequence.specs.Remaining.{view}
 use Rattle.reach.specs.CallCases as cases
-use Rattle.reach.specs.CallCases.{Waits, RequestRefused, HidppCase, givesFailed, givesReply, givesStray, givesPlain, givesEvent, DjRefused, DjCase, djRefused, RequestCase, requestRefused, CancelCase, refused13, StepCase, unread, hidppAtPort, djAtPort, requestAtPort, cancelAtPort, writeOnly, AllPlaced}
+use Rattle.reach.specs.CallCases.{Waits, RequestRefused, HidppCase, givesFailed, givesReply, givesStray, givesPlain, givesEvent, DjRefused, DjCase, djRefused, RequestCase, requestRefused, CancelCase, refused13, StepCase, unread, hidppAtPort, serialAtPort, djAtPort, requestAtPort, cancelAtPort, writeOnly, AllPlaced}
 use Rattle.reach.specs.CallCasesLaws.{step-case, by-cases}
 use Rattle.reach.specs.RefusalTable as table
 use Rattle.reach.specs.RefusalTable.{Sized, ReadRefused, is1, is2, is3, is4, hidpp5, dj5, is6, RefusalRow, byBytes, byPort, cancel13, switch14, switch10, getPaired10, led5, led10, list10, RefusedWith, takeWith, writeWith, cancelWith, ByTheTable}
@@ -92,6 +92,9 @@ module _ (st : Station) where
   hidpp-why (givesPlain h) = elim [ ]
   hidpp-why (givesEvent h) = elim [ ]
 
+  serial-why : {dropped : ℕ} {a : About} {number : ℕ} → RefusedWith (taken (reply dropped a)) number → ⊥
+  serial-why = elim [ ]
+
   dj-why : {p : Port} {r : Report} {bytes : List ℕ} {x : Result} {number : ℕ} → DjCase p r bytes x → RefusedWith (taken (x .answer)) number → DjRefused p r bytes number
   dj-why (djRefused h) takeWith = h
 
@@ -151,7 +154,8 @@ module _ (st : Station) where
 
   case-why : {c : Call} {o : Outcome} {number : ℕ} → StepCase st c o → RefusedWith (o .answer) number → RefusalRow st c number
   case-why (unread {bytes} e) takeWith = byBytes (read-refused bytes _ .0 e)
-  case-why (hidppAtPort e h) r = absurd (hidpp-why h r)
+  case-why (hidppAtPort e n h) r = absurd (hidpp-why h r)
+  case-why (serialAtPort e g h) r = absurd (serial-why r)
   case-why (djAtPort {bytes} {r} e h) q =
       dj-row r (subst (ReadFits bytes) e (read-fits bytes) .1 .1) e (dj-why h q)
   case-why (cases.request5 e) writeWith = table.request5 e

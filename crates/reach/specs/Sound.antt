@@ -8,6 +8,8 @@ use Rattle.report.specs.declared.FeatureIndex.{FeatureIndex}
 use Rattle.frame.specs.Forbidden.{isAskable}
 use Rattle.port.specs.declared.Port.{Port}
 use Rattle.port.specs.declared.Request.{Request}
+use Rattle.port.specs.declared.Serial.{Serial}
+use Rattle.port.specs.declared.Serial.the-variants.{Unknown}
 use Rattle.port.specs.Records.{placeCount, featureCount, emptyPlace, requestIn, featureAt}
 use Rattle.port.specs.Places.{isEmpty, matches}
 use Rattle.hidpp.specs.HidppRecords.{maxIndex}
@@ -36,14 +38,15 @@ pub record SoundFeatures (features : List FeatureIndex) : Type 0 where
   pub all : length features ≡ featureCount
   pub each : (slot : ℕ) → featureAt features slot ≤ maxIndex
 
--- what the port at a position holds; port 255 is not paired
-pub record SoundRecord (position : ℕ) (paired : Bool) (features : List FeatureIndex) (places : List Request) : Type 0 where
+-- what the port at a position holds; port 255 is not paired, and no serial is known of what is not paired
+pub record SoundRecord (position : ℕ) (paired : Bool) (serial : Serial) (features : List FeatureIndex) (places : List Request) : Type 0 where
   pub receiver : position ≡ receiverPosition → paired ≡ false
+  pub unpaired : paired ≡ false → serial ≡ Unknown
   pub indexes : SoundFeatures features
   pub waiting : SoundPlaces places
 
 abbrev pub SoundPort : ℕ → Port → Type 0
-SoundPort position p = SoundRecord position (p .paired) (p .features) (p .places)
+SoundPort position p = SoundRecord position (p .paired) (p .serial) (p .features) (p .places)
 
 -- seven ports, and each of them sound
 pub record Reached (st : Station) : Type 0 where

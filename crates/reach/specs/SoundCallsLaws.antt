@@ -1,7 +1,7 @@
 -- Document 01, "Ports and their records": what is sound at a port stays so by every call, by the call's cases.
 use Prim.Native.Nat.{ℕ, _≤_, _<_}
-use mathlib.Core.Path.{_≡_}
-use mathlib.Core.Bool.{true, false, not}
+use mathlib.Core.Path.{_≡_, sym, _∙_}
+use mathlib.Core.Bool.{true, false, not, true≢false}
 use mathlib.Core.List.{List}
 use native.Mathlib.Omega.{arith}
 use lib.ListN.{length}
@@ -11,19 +11,20 @@ use Rattle.report.specs.Ports.{inRange}
 use Rattle.report.specs.Reading.{Report}
 use Rattle.frame.specs.Forbidden.{isSized, isAskable, isForbiddenFrame}
 use Rattle.port.specs.declared.Port.{Port}
-use Rattle.port.specs.Records.{madeFresh, requestIn, withPlaces, withPairing, withLink, withReports}
+use Rattle.port.specs.Records.{madeFresh, requestIn, withPlaces, withPairing, withSerial, withLink, withReports}
 use Rattle.port.specs.Places.{isEmpty, firstAt}
 use Rattle.port.specs.Waiting as waiting
 use Rattle.port.specs.Waiting.{waitingAt, endedAt}
 use Rattle.port.specs.Answers.{Result}
 use Rattle.hidpp.specs.declared.Message.{Message}
 use Rattle.hidpp.specs.HidppTaking.{named2, named3, code}
+use Rattle.serial.specs.Serials.{SerialResult}
 use Rattle.request.specs.Requesting.{RequestAt, maxTicks, isForbidden, waitingRequest}
 use Rattle.station.specs.Stations.{receiverPosition}
 use Rattle.sequence.specs.ReadingsLaws.{in-range}
 use Rattle.reach.specs.Sound.{SoundPort}
 use Rattle.reach.specs.SoundLaws.{sound-ended, sound-asked, Records, same, reply-records, error-records, event-records, records-sound, sound-fresh}
-use Rattle.reach.specs.CallCases.{failedPlace, repliedPlace, HidppCase, givesFailed, givesReply, givesStray, givesPlain, givesEvent, DjCase, djRefused, radioTaken, unpairs, pairedSame, pairedNew, linkSet, otherNotice, RequestCase, requestRefused, accepted, CancelCase, refused13, cancelDone}
+use Rattle.reach.specs.CallCases.{failedPlace, repliedPlace, HidppCase, givesFailed, givesReply, givesStray, givesPlain, givesEvent, SerialCase, keepsNone, firstSerial, sameSerial, otherSerial, DjCase, djRefused, radioTaken, unpairs, pairedSame, pairedNew, linkSet, otherNotice, RequestCase, requestRefused, accepted, CancelCase, refused13, cancelDone}
 use Rattle.reach.specs.CallCasesLaws.{not-so}
 
 -- 9 allows 1 to 255 ticks, and a byte 2 of 0x00 to 0x3F or 0x80 to 0x83
@@ -40,6 +41,7 @@ module _ (position : ℕ) (p : Port) (s : SoundPort position p) where
   ended byte2 byte3 q e =
       records-sound (endedAt p (waitingAt p byte2 byte3)) q e (record {
         receiver = s .receiver;
+        unpaired = s .unpaired;
         indexes = s .indexes;
         waiting = sound-ended (s .waiting) (waitingAt p byte2 byte3);
       })
@@ -54,6 +56,21 @@ module _ (position : ℕ) (p : Port) (s : SoundPort position p) where
   hidpp-sound (givesPlain h) = s
   hidpp-sound {m} {r} (givesEvent h) = records-sound p (r .port) (event-records p m) s
 
+  -- a serial at its device's port
+  pub serial-sound : {number : ℕ} {x : SerialResult} → SerialCase p number x → SoundPort position (x .port)
+  unfolding withSerial withPairing madeFresh
+  serial-sound (keepsNone h) = s
+  serial-sound (firstSerial h e) =
+      record { receiver = s .receiver; unpaired = λ q. absurd (true≢false (sym h ∙ q)); indexes = s .indexes; waiting = s .waiting }
+  serial-sound (sameSerial h e) = s
+  serial-sound (otherSerial known h e differs) =
+      record {
+        receiver = λ i. absurd (true≢false (sym h ∙ s .receiver i));
+        unpaired = λ q. absurd (true≢false q);
+        indexes = sound-fresh position .indexes;
+        waiting = sound-fresh position .waiting;
+      }
+
   -- the receiver has notifications 0x43 to 0x7F only
   pub dj-sound : {r : Report} {bytes : List ℕ} {x : Result} → (position ≡ receiverPosition → 0x42 < r .byte2) → DjCase p r bytes x → SoundPort position (x .port)
   unfolding withLink withReports withPairing madeFresh
@@ -64,6 +81,7 @@ module _ (position : ℕ) (p : Port) (s : SoundPort position p) where
   dj-sound last (pairedNew e q) =
       record {
         receiver = λ i. absurd (omega (arith, last i));
+        unpaired = λ q. absurd (true≢false q);
         indexes = sound-fresh position .indexes;
         waiting = sound-fresh position .waiting;
       }
@@ -77,6 +95,7 @@ module _ (position : ℕ) (p : Port) (s : SoundPort position p) where
       let h = allowed byte2 byte3 ticks params (f .allowed) in
       record {
         receiver = s .receiver;
+        unpaired = s .unpaired;
         indexes = s .indexes;
         waiting = sound-asked (s .waiting) (firstAt isEmpty (p .places)) (waitingRequest byte2 byte3 ticks params) (record {
           ticks = h .0 .1;

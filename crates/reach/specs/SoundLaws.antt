@@ -13,6 +13,7 @@ use Rattle.report.specs.ChoicesLaws.{by-case, both}
 use Rattle.report.specs.declared.FeatureIndex.{FeatureIndex}
 use Rattle.port.specs.declared.Port.{Port}
 use Rattle.port.specs.declared.Request.{Request}
+use Rattle.port.specs.declared.Serial.{Serial}
 use Rattle.port.specs.Records.{placeCount, featureCount, emptyPlace, freshPort, batteryStatus, wirelessStatus, slotOf, requestIn, withVersion, withBattery, withFeatures, withLink}
 use Rattle.port.specs.Places.{isEmpty, matches}
 use Rattle.port.specs.Ticks.{afterTick}
@@ -119,17 +120,19 @@ sound-found {features} s slot index =
       each = λ k. after-set (λ (x y : FeatureIndex). x .0 ≤ maxIndex → y .0 ≤ maxIndex) (record { 0 = 0 }) features slot (indexFrom index) (λ x h. h) (λ x h. bounded index) k (s .each k);
     }
 
--- what a report changes in the records: the pairing and the places stay, and the indexes stay sound
-pub record Recorded (paired : Bool) (features : List FeatureIndex) (before : List Request) (paired′ : Bool) (features′ : List FeatureIndex) (after : List Request) : Type 0 where
+-- what a report changes in the records: the pairing, the serial and the places stay, and the indexes stay sound
+pub record Recorded (paired : Bool) (known : Serial) (features : List FeatureIndex) (before : List Request) (paired′ : Bool) (known′ : Serial) (features′ : List FeatureIndex) (after : List Request) : Type 0 where
   pub pairing : paired′ ≡ paired
+  pub serial : known′ ≡ known
   pub indexes : SoundFeatures features → SoundFeatures features′
   pub places : after ≡ before
 
 abbrev pub Records : Port → Port → Type 0
-Records p q = Recorded (p .paired) (p .features) (p .places) (q .paired) (q .features) (q .places)
+Records p q =
+    Recorded (p .paired) (p .serial) (p .features) (p .places) (q .paired) (q .serial) (q .features) (q .places)
 
-pub same : {paired : Bool} {features : List FeatureIndex} {places : List Request} → Recorded paired features places paired features places
-same = record { pairing = refl; indexes = λ s. s; places = refl }
+pub same : {paired : Bool} {serial : Serial} {features : List FeatureIndex} {places : List Request} → Recorded paired serial features places paired serial features places
+same = record { pairing = refl; serial = refl; indexes = λ s. s; places = refl }
 
 module _ (p : Port) (m : Message) where
   battery-records : Records p (withBatteryFrom p (m .first))
@@ -141,7 +144,7 @@ module _ (p : Port) (m : Message) where
   reply-records r =
       by-case (Records p) (isPing (m .byte2 .0) (m .byte3)) (λ e. same)
       (λ e. by-case (Records p) (isGetFeature (m .byte2 .0) (m .byte3))
-      (λ q. by-case (Records p) (ltb (slotOf (askedFeature r)) featureCount) (λ z. record { pairing = refl; indexes = λ s. sound-found s _ _; places = refl }) (λ z. same))
+      (λ q. by-case (Records p) (ltb (slotOf (askedFeature r)) featureCount) (λ z. record { pairing = refl; serial = refl; indexes = λ s. sound-found s _ _; places = refl }) (λ z. same))
       (λ q. by-case (Records p) (isBatteryReply p m) (λ z. battery-records) (λ z. same)))
 
   pub event-records : Records p (afterEvent p m)
@@ -159,6 +162,7 @@ pub records-sound : {position : ℕ} (p q : Port) → Records p q → SoundPort 
 records-sound p q r s =
     record {
       receiver = λ i. r .pairing ∙ s .receiver i;
+      unpaired = λ e. r .serial ∙ s .unpaired (sym (r .pairing) ∙ e);
       indexes = r .indexes (s .indexes);
       waiting = subst SoundPlaces (sym (r .places)) (s .waiting);
     }
@@ -186,4 +190,4 @@ fresh-places =
 
 pub sound-fresh : (position : ℕ) → SoundPort position freshPort
 unfolding freshPort
-sound-fresh position = record { receiver = λ e. refl; indexes = fresh-features; waiting = fresh-places }
+sound-fresh position = record { receiver = λ e. refl; unpaired = λ e. refl; indexes = fresh-features; waiting = fresh-places }

@@ -1,7 +1,7 @@
--- Document 01, "Writing" and "Sequences of calls": what a call comes to on the station, port by port, and what calls reach.
+-- Document 01, "Writing" and "Sequences of calls", and document 02, Ask 1: what a call comes to on the station, port by port, and what calls reach.
 use Prim.Native.Nat.{ℕ, _+_, _-_, _<_}
 use mathlib.Core.Path.{_≡_, refl, sym, _∙_, ap, subst}
-use mathlib.Core.Bool.{Bool, true, false, cond, _&&_}
+use mathlib.Core.Bool.{Bool, true, false, cond, _&&_, _||_}
 use mathlib.Core.List.{List, [], _∷_, map}
 use native.Mathlib.Decide.{ℕ-discrete}
 use native.Mathlib.Omega.{arith}
@@ -9,22 +9,27 @@ use lib.ListN.{length, getD, set, length-set, length-map, getD-replicate}
 use lib.Seq.{getD-set-same, getD-set-other}
 use lib.Dec.{eqb}
 use borrow.Author.Tests.{eqb-true, eqb-false, eq-eqb, ne-eqb}
-use Rattle.report.specs.ChoicesLaws.{by-case}
-use Rattle.report.specs.Ports.{isPort}
+use Rattle.report.specs.ChoicesLaws.{by-case, neither}
+use Rattle.report.specs.Ports.{receiver, isDevice, isPort}
 use Rattle.report.specs.Sizes.{byte, hidppStart, djStart}
-use Rattle.report.specs.Reading.{Report, reportFrom}
+use Rattle.report.specs.Reading as reading
+use Rattle.report.specs.Reading.{Report, reportFrom, readRule}
 use Rattle.frame.specs.Writing as writing
 use Rattle.port.specs.declared.Port.{Port}
 use Rattle.port.specs.declared.Request.{Request}
 use Rattle.port.specs.Records.{emptyPlace, freshPort, requestIn, withPlaces}
 use Rattle.port.specs.Places.{isEmpty, firstAt, sumOver, oneIfWaiting, countWaiting}
 use Rattle.port.specs.Ticks.{afterTick, oneIfEnding, tickRule}
-use Rattle.port.specs.Answers.{Result}
-use Rattle.hidpp.specs.HidppTaking.{messageOf}
+use Rattle.port.specs.Answers.{Answer, reply, Result}
+use Rattle.hidpp.specs.declared.Message.{Message}
+use Rattle.hidpp.specs.HidppTaking.{messageOf, carried, isError}
+use Rattle.serial.specs.Serials.{deviceFor, Given, serialOf, givenBy, SerialResult}
+use Rattle.serial.specs.Giving.{Gives}
+use Rattle.serial.specs.GivingLaws.{parameter-of, given-exactly}
 use Rattle.request.specs.Requesting.{RequestAt, waitingRequest}
 use Rattle.station.specs.declared.Station.{Station}
 use Rattle.station.specs.Stations.{portCount, positionOf, freshStation, noPort, portAt, withPort}
-use Rattle.station.specs.StationsLaws.{position-within}
+use Rattle.station.specs.StationsLaws.{device-number, position-within}
 use Rattle.station.specs.StationTaking.{storedAt}
 use Rattle.station.specs.StationCalls as stations
 use Rattle.station.specs.StationCalls.{tickedPort, tickAll}
@@ -39,23 +44,23 @@ use Rattle.sequence.specs.IndependenceLaws.{stored, elsewhere, ticked-at, count
 use Rattle.reach.specs.ListsLaws.{found-passes, sum-set, after-map}
 use Rattle.reach.specs.Sound.{SoundPort, Reached}
 use Rattle.reach.specs.SoundLaws.{sound-ticks, sound-fresh}
-use Rattle.reach.specs.SoundCallsLaws.{allowed, hidpp-sound, dj-sound, request-sound, cancel-sound}
-use Rattle.reach.specs.CallCases.{Placed, RequestCase, requestRefused, accepted, StepCase, unread, listEmpty, hidppAtPort, djAtPort, request5, requestAtPort, cancel5, cancelAtPort, tickAllPorts, writeOnly, AllPlaced}
-use Rattle.reach.specs.CallCasesLaws.{and-false, empty-place, step-case}
-use Rattle.reach.specs.Ends.{isTick, takeEnding, Way, byReply, byError, byExpiry, byCancel, byDrop, isWay, endingOf, nothing, endsBy, oneIf, begunOn, Fate, stays, lowered, filled, emptied, waitingOn, EndsAt, endedIn, begunIn, Accounted}
-use Rattle.reach.specs.EndsLaws.{Elsewhere, sum-zero, Change, same, empties, EndingAt, elsewhere as ends-elsewhere, hidpp-ends, dj-ends, cancel-ends, hidpp-apart, dj-apart, cancel-apart}
-use Rattle.reach.specs.Fields.{Field, takeLists, ChangesListed, Same}
-use Rattle.reach.specs.FieldsLaws.{Keeps, unlisted-kept, keeps-all, hidpp-keeps, dj-keeps, request-keeps, cancel-keeps, tick-keeps}
+use Rattle.reach.specs.SoundCallsLaws.{allowed, hidpp-sound, serial-sound, dj-sound, request-sound, cancel-sound}
+use Rattle.reach.specs.CallCases.{Waits, Placed, HidppCase, givesReply, gives, repliedPort, SerialCase, RequestCase, requestRefused, accepted, StepCase, unread, listEmpty, hidppAtPort, serialAtPort, djAtPort, request5, requestAtPort, cancel5, cancelAtPort, tickAllPorts, writeOnly, AllPlaced}
+use Rattle.reach.specs.CallCasesLaws.{and-false, waits-at, empty-place, step-case}
+use Rattle.reach.specs.Ends.{isTick, takeEnding, Way, byReply, byError, byExpiry, byCancel, byDrop, isWay, Ending, endingOf, nothing, dropped, endsBy, oneIf, begunOn, Fate, stays, lowered, filled, emptied, waitingOn, EndsAt, endedIn, begunIn, Accounted}
+use Rattle.reach.specs.EndsLaws.{Elsewhere, sum-zero, Change, same, empties, EndingAt, elsewhere as ends-elsewhere, reply-ends, hidpp-ends, serial-ends, dj-ends, cancel-ends, hidpp-apart, dj-apart, cancel-apart}
+use Rattle.reach.specs.Fields.{Field, places, is, takeLists, serialLists, ChangesListed, Same}
+use Rattle.reach.specs.FieldsLaws.{Keeps, unlisted-kept, keeps-all, hidpp-keeps, serial-keeps, dj-keeps, request-keeps, cancel-keeps, tick-keeps}
 
 pub all-placed : {st : Station} → Reached st → AllPlaced st
 all-placed k position h = k .each position h .waiting .all
 
 -- what an answer says of the requests that ended is what becomes of the places, where the call begins none
-ends-only : (n : ℕ) (c : Call) (a : CallAnswer) {p q : Port} → isTick c ≡ false → begunOn n c a ≡ 0 → EndingAt n (endingOf c a) p q → EndsAt n c a p q
+ends-only : (n : ℕ) (c : Call) (a : CallAnswer) {p q : Port} → isTick c ≡ false → begunOn n c a ≡ 0 → EndingAt n (endingOf n c a) p q → EndsAt n c a p q
 ends-only n c a t z e =
     record { fate = λ place. go (e .change place); counted = e .counted; balance = omega (arith, e .balance, z) }
   where
-    go : {before after : Request} → Change n (endingOf c a) before after → Fate n c a before after
+    go : {before after : Request} → Change n (endingOf n c a) before after → Fate n c a before after
     go (same f h) = stays f (simp t) h
     go (empties w f g h) = emptied w f g h
 
@@ -114,7 +119,7 @@ tick-places [] = omega arith
 tick-places (r ∷ rs) = omega (arith, tick-place r, tick-places rs)
 
 module _ (n : ℕ) (counts : List ℕ) where
-  idle-tick : (r : Request) → isEmpty r ≡ true → (w : Way) → endsBy w n (endingOf tick (ticked counts)) r ≡ false
+  idle-tick : (r : Request) → isEmpty r ≡ true → (w : Way) → endsBy w n (endingOf n tick (ticked counts)) r ≡ false
   idle-tick r e w = simp (ne-eqb (r .ticks) 1 (omega (arith, eqb-true (r .ticks) 0 e))) (and-false (isWay w byExpiry))
 
   tick-fate : (r : Request) → Fate n tick (ticked counts) r (afterTick r)
@@ -139,30 +144,30 @@ module _ (n : ℕ) (counts : List ℕ) where
 
 tick-sound : (position : ℕ) (p : Port) → SoundPort position p → SoundPort position (tickedPort p)
 unfolding tickedPort withPlaces tickRule
-tick-sound position p s = record { receiver = s .receiver; indexes = s .indexes; waiting = sound-ticks (s .waiting) }
+tick-sound position p s = record { receiver = s .receiver; unpaired = s .unpaired; indexes = s .indexes; waiting = sound-ticks (s .waiting) }
 
 -- one call on a station that calls reach
 record Steps (st : Station) (c : Call) (o : Outcome) : Type 0 where
   reached : Reached (o .station)
   ends : (n : ℕ) → isPort n ≡ true → EndsAt n c (o .answer) (view n st) (view n (o .station))
-  changes : (n : ℕ) → isPort n ≡ true → ChangesListed n c (o .answer) (view n st) (view n (o .station))
+  changes : (n : ℕ) → isPort n ≡ true → ChangesListed n c (o .answer) (view receiver st) (view n st) (view n (o .station))
+
+reached-with : (st : Station) → Reached st → (position : ℕ) → position < portCount → (q : Port) → SoundPort position q → Reached (withPort st position q)
+unfolding withPort
+reached-with st k position within q s =
+    record { all = length-set (st .ports) position q ∙ k .all; each = λ i h. go i h (ℕ-discrete i position) }
+  where
+    next : Station
+    next = withPort st position q
+
+    go : (i : ℕ) → i < portCount → Dec (i ≡ position) → SoundPort i (portAt (withPort st position q) i)
+    go i h (yes e) =
+        subst (λ (j : ℕ). SoundPort j (portAt (withPort st position q) j)) (sym e) (subst (SoundPort position) (sym (stored st position q within (k .all))) s)
+    go i h (no e) = subst (SoundPort i) (sym (elsewhere st position i q e)) (k .each i h)
 
 module _ (st : Station) (k : Reached st) where
   sound-at : (number : ℕ) → SoundPort (positionOf number) (view number st)
   sound-at number = k .each (positionOf number) (position-within number)
-
-  reached-with : (position : ℕ) → position < portCount → (q : Port) → SoundPort position q → Reached (withPort st position q)
-  unfolding withPort
-  reached-with position within q s =
-      record { all = length-set (st .ports) position q ∙ k .all; each = λ i h. go i h (ℕ-discrete i position) }
-    where
-      next : Station
-      next = withPort st position q
-
-      go : (i : ℕ) → i < portCount → Dec (i ≡ position) → SoundPort i (portAt (withPort st position q) i)
-      go i h (yes e) =
-          subst (λ (j : ℕ). SoundPort j (portAt (withPort st position q) j)) (sym e) (subst (SoundPort position) (sym (stored st position q within (k .all))) s)
-      go i h (no e) = subst (SoundPort i) (sym (elsewhere st position i q e)) (k .each i h)
 
   -- a call at a port: what holds there, and of every other port as it is
   at-port : (P : ℕ → Port → Port → Type 0) (device n : ℕ) (q : Port) → isPort device ≡ true → isPort n ≡ true → P device (view device st) q → (eqb device n ≡ false → P n (view n st) (view n st)) → P n (view n st) (view n (withPort st (positionOf device) q))
@@ -174,8 +179,22 @@ module _ (st : Station) (k : Reached st) where
       go false e =
           subst (P n (view n st)) (sym (elsewhere st (positionOf device) (positionOf n) q (λ z. eqb-false device n e (sym (one-number n device h d z))))) (there e)
 
+  seven-with : (position : ℕ) (q : Port) → length (withPort st position q .ports) ≡ portCount
+  unfolding withPort
+  seven-with position q = length-set (st .ports) position q ∙ k .all
+
+  -- a call at two ports
+  two-ports : (P : ℕ → Port → Port → Type 0) (device other n : ℕ) (q z : Port) → isPort device ≡ true → isPort other ≡ true → isPort n ≡ true → P device (view device st) q → P other (view other st) z → (eqb other n ≡ false → eqb device n ≡ false → P n (view n st) (view n st)) → P n (view n st) (view n (withPort (withPort st (positionOf device) q) (positionOf other) z))
+  two-ports P device other n q z d o h here also there = go (eqb other n) refl
+    where
+      go : (b : Bool) → eqb other n ≡ b → P n (view n st) (view n (withPort (withPort st (positionOf device) q) (positionOf other) z))
+      go true e =
+          subst (λ (i : ℕ). P i (view i st) (view i (withPort (withPort st (positionOf device) q) (positionOf other) z))) (eqb-true other n e) (subst (P other (view other st)) (sym (stored (withPort st (positionOf device) q) (positionOf other) z (position-within other) (seven-with (positionOf device) q))) also)
+      go false e =
+          subst (P n (view n st)) (sym (elsewhere (withPort st (positionOf device) q) (positionOf other) (positionOf n) z (λ y. eqb-false other n e (sym (one-number n other h o y))))) (at-port P device n q d h here (there e))
+
   -- a call that changes no port
-  idle : {c : Call} {a : CallAnswer} → isTick c ≡ false → ((n : ℕ) → begunOn n c a ≡ 0) → ((n : ℕ) → EndingAt n (endingOf c a) (view n st) (view n st)) → (read lent : List ℕ) → Steps st c (record { answer = a; read = read; lent = lent; station = st })
+  idle : {c : Call} {a : CallAnswer} → isTick c ≡ false → ((n : ℕ) → begunOn n c a ≡ 0) → ((n : ℕ) → EndingAt n (endingOf n c a) (view n st) (view n st)) → (read lent : List ℕ) → Steps st c (record { answer = a; read = read; lent = lent; station = st })
   idle {c} {a} t z e read lent =
       record {
         reached = k;
@@ -187,15 +206,16 @@ module _ (st : Station) (k : Reached st) where
   nothing-ends n = ends-elsewhere n (view n st) (view n st) nothing tt refl
 
   -- what is listed at the port that a call names
-  listed-at : {number device : ℕ} {listed : Field → Bool} {p q : Port} → number ≡ device → Keeps listed p q → (f : Field) → (eqb number device && listed f) ≡ false → Same f p q
-  listed-at {number} {device} e s f h = unlisted-kept s f (simp (eq-eqb number device e) at h)
+  listed-at : {number device : ℕ} {listed : Field → Bool} (more : Field → Bool) {p q : Port} → number ≡ device → Keeps listed p q → (f : Field) → ((eqb number device && listed f) || more f) ≡ false → Same f p q
+  listed-at {number} {device} {listed} more e s f h =
+      unlisted-kept s f (simp (eq-eqb number device e) at (neither (eqb number device && listed f) (more f) h .0))
 
-  taken-at : (bytes : List ℕ) (device : ℕ) (x : Result) → isPort device ≡ true → byte bytes 1 ≡ device → SoundPort (positionOf device) (x .port) → EndingAt device (takeEnding (x .answer)) (view device st) (x .port) → ((n : ℕ) → eqb device n ≡ false → Elsewhere n (takeEnding (x .answer))) → Keeps (takeLists (view device st) (x .answer)) (view device st) (x .port) → Steps st (take bytes) (takeStep bytes (storedAt st (positionOf device) x))
+  taken-at : (bytes : List ℕ) (device : ℕ) (x : Result) → isPort device ≡ true → byte bytes 1 ≡ device → SoundPort (positionOf device) (x .port) → EndingAt device (takeEnding device bytes (x .answer)) (view device st) (x .port) → ((n : ℕ) → eqb device n ≡ false → Elsewhere n (takeEnding n bytes (x .answer))) → Keeps (takeLists (view device st) (x .answer)) (view device st) (x .port) → Steps st (take bytes) (takeStep bytes (storedAt st (positionOf device) x))
   taken-at bytes device x d e sound ends apart fields =
       record {
-        reached = reached-with (positionOf device) (position-within device) (x .port) sound;
-        ends = λ n h. at-port (λ i p q. EndsAt i (take bytes) (taken (x .answer)) p q) device n (x .port) d h (ends-only device (take bytes) (taken (x .answer)) refl refl ends) (λ z. ends-only n (take bytes) (taken (x .answer)) refl refl (ends-elsewhere n (view n st) (view n st) (takeEnding (x .answer)) (apart n z) refl));
-        changes = λ n h. at-port (λ i p q. ChangesListed i (take bytes) (taken (x .answer)) p q) device n (x .port) d h (listed-at e fields) (λ z. unlisted-kept (keeps-all _ (view n st)));
+        reached = reached-with st k (positionOf device) (position-within device) (x .port) sound;
+        ends = λ n h. at-port (λ i p q. EndsAt i (take bytes) (taken (x .answer)) p q) device n (x .port) d h (ends-only device (take bytes) (taken (x .answer)) refl refl ends) (λ z. ends-only n (take bytes) (taken (x .answer)) refl refl (ends-elsewhere n (view n st) (view n st) (takeEnding n bytes (x .answer)) (apart n z) refl));
+        changes = λ n h. at-port (λ i p q. ChangesListed i (take bytes) (taken (x .answer)) (view receiver st) p q) device n (x .port) d h (listed-at _ e fields) (λ z. unlisted-kept (keeps-all _ (view n st)));
       }
 
   device-in : (start : ℕ) (bytes : List ℕ) {r : Report} → r ≡ reportFrom start bytes → byte bytes 1 ≡ r .device
@@ -214,17 +234,74 @@ module _ (st : Station) (k : Reached st) where
           each = λ position h. subst (SoundPort position) (sym (ticked-at st position)) (tick-sound position (portAt st position) (k .each position h));
         };
         ends = λ n h. subst (EndsAt n tick (ticked (tickAll st .ended)) (view n st)) (sym (ticked-at st (positionOf n))) (tick-ends n (tickAll st .ended) (view n st) (counted-at st (positionOf n)));
-        changes = λ n h. subst (ChangesListed n tick (ticked (tickAll st .ended)) (view n st)) (sym (ticked-at st (positionOf n))) (unlisted-kept (tick-keeps (view n st)));
+        changes = λ n h. subst (ChangesListed n tick (ticked (tickAll st .ended)) (view receiver st) (view n st)) (sym (ticked-at st (positionOf n))) (λ f q. unlisted-kept (tick-keeps (view n st)) f (neither (is places f) false q .0));
       }
+
+  -- a reply that gives a device's serial
+  module _ (bytes : List ℕ) (r : Report) (device number : ℕ) (x : SerialResult) (e : readRule bytes ≡ reading.hidpp r) (g : Gives (view (r .device) st) r bytes device number) (h : SerialCase (view device st) number x) where
+    abbrev message : Message
+    message = messageOf r bytes
+
+    abbrev answer : Answer
+    answer = carried (reply (x .dropped)) message
+
+    fits : ReadFits bytes (reading.hidpp r)
+    fits = subst (ReadFits bytes) e (read-fits bytes)
+
+    is-device : deviceFor (byte bytes 4) ≡ device
+    is-device = parameter-of device (byte bytes 4) (g .named) (g .repeated) .1
+
+    a-port : isPort device ≡ true
+    a-port = ap (λ (b : Bool). b || eqb device receiver) (g .named)
+
+    apart : eqb (r .device) device ≡ false
+    apart =
+        ne-eqb (r .device) device (λ q. let z : device ≡ 255 = sym q ∙ g .receiver in omega (arith, device-number device (g .named) .1))
+
+    -- port 255 gives it
+    is-given : givenBy (view receiver st) (reportFrom hidppStart bytes) bytes ≡ serialOf device number
+    is-given =
+        ap (λ (i : ℕ). givenBy (view i st) (reportFrom hidppStart bytes) bytes) (sym (g .receiver))
+        ∙ ap (λ (y : Report). givenBy (view (r .device) st) y bytes) (sym (fits .1 .1))
+        ∙ given-exactly (view (r .device) st) r bytes device number .1 g
+
+    drops-there : takeEnding device bytes answer ≡ dropped device (x .dropped)
+    unfolding messageOf
+    drops-there = simp apart (ap (λ (i : ℕ). dropped i (x .dropped)) is-device)
+
+    drops-elsewhere : (n : ℕ) → eqb device n ≡ false → eqb (r .device) n ≡ false → Elsewhere n (takeEnding n bytes answer)
+    unfolding messageOf
+    drops-elsewhere n p q = simp (q, is-device, p)
+
+    on-serial : Steps st (take bytes) (takeStep bytes (record { answer = answer; station = withPort (withPort st (positionOf (r .device)) (repliedPort (view (r .device) st) message)) (positionOf device) (x .port) }))
+    unfolding messageOf
+    on-serial =
+        let s = sound-at (r .device) in
+        let p = view (r .device) st in
+        let waits : Waits p (r .byte2) (r .byte3) = waits-at p (s .waiting .all) (r .byte2) (r .byte3) (cc (g .byte2, g .byte3, g .waits)) in
+        let replies : HidppCase p message (gives (carried (reply 0) message) (repliedPort p message)) = givesReply (ap isError (g .byte2), waits) in
+        let c = take bytes in
+        record {
+          reached = reached-with (withPort st (positionOf (r .device)) (repliedPort p message)) (reached-with st k (positionOf (r .device)) (position-within (r .device)) (repliedPort p message) (hidpp-sound _ _ s replies)) (positionOf device) (position-within device) (x .port) (serial-sound _ _ (sound-at device) h);
+          ends = λ n i. two-ports (λ j y z. EndsAt j c (taken answer) y z) (r .device) device n (repliedPort p message) (x .port) (fits .0) a-port i
+              (ends-only (r .device) c (taken answer) refl refl (reply-ends p (s .waiting) bytes message (x .dropped) waits))
+              (ends-only device c (taken answer) refl refl (subst (λ (y : Ending). EndingAt device y (view device st) (x .port)) (sym drops-there) (serial-ends (view device st) (sound-at device .waiting) device number h)))
+              (λ y z. ends-only n c (taken answer) refl refl (ends-elsewhere n (view n st) (view n st) (takeEnding n bytes answer) (drops-elsewhere n y z) refl));
+          changes = λ n i. two-ports (λ j y z. ChangesListed j c (taken answer) (view receiver st) y z) (r .device) device n (repliedPort p message) (x .port) (fits .0) a-port i
+              (listed-at _ (device-in hidppStart bytes (fits .1 .1)) (hidpp-keeps replies))
+              (λ f q. unlisted-kept (serial-keeps device h) f (subst (λ (y : Given). serialLists device (view device st) y f ≡ false) is-given (neither (eqb (byte bytes 1) device && takeLists (view device st) answer f) (serialLists device (view device st) (givenBy (view receiver st) (reportFrom hidppStart bytes) bytes) f) q .1)))
+              (λ y z. unlisted-kept (keeps-all _ (view n st)));
+        }
 
   case-steps : {c : Call} {o : Outcome} → StepCase st c o → Steps st c o
   unfolding messageOf
   case-steps (unread {bytes} e) = idle refl (λ n. refl) nothing-ends bytes []
   case-steps (listEmpty {bytes} e) = idle refl (λ n. refl) nothing-ends bytes []
-  case-steps (hidppAtPort {bytes} {r} {x} e h) =
+  case-steps (hidppAtPort {bytes} {r} {x} e n h) =
       let fits = subst (ReadFits bytes) e (read-fits bytes) in
       let s = sound-at (r .device) in
-      taken-at bytes (r .device) x (fits .0) (device-in hidppStart bytes (fits .1 .1)) (hidpp-sound _ _ s h) (hidpp-ends _ (s .waiting) h) (λ n. hidpp-apart n h) (hidpp-keeps h)
+      taken-at bytes (r .device) x (fits .0) (device-in hidppStart bytes (fits .1 .1)) (hidpp-sound _ _ s h) (hidpp-ends _ (s .waiting) bytes h) (λ n. hidpp-apart n bytes h) (hidpp-keeps h)
+  case-steps (serialAtPort {bytes} {r} {device} {number} {x} e g h) = on-serial bytes r device number x e g h
   case-steps (djAtPort {bytes} {r} {x} e h) =
       let fits = subst (ReadFits bytes) e (read-fits bytes) in
       let s = sound-at (r .device) in
@@ -234,18 +311,18 @@ module _ (st : Station) (k : Reached st) where
       let c = request device byte2 byte3 ticks params offset lent in
       let s = sound-at device in
       record {
-        reached = reached-with (positionOf device) (position-within device) (x .port) (request-sound _ _ s h);
+        reached = reached-with st k (positionOf device) (position-within device) (x .port) (request-sound _ _ s h);
         ends = λ n g. at-port (λ i p q. EndsAt i c (written (x .answer)) p q) device n (x .port) e g (filled-at device byte2 byte3 ticks params offset lent _ (s .waiting .all) h) (λ z. ends-only n c (written (x .answer)) refl (simp z) (nothing-ends n));
-        changes = λ n g. at-port (λ i p q. ChangesListed i c (written (x .answer)) p q) device n (x .port) e g (listed-at {number = device} refl (request-keeps h)) (λ z. unlisted-kept (keeps-all _ (view n st)));
+        changes = λ n g. at-port (λ i p q. ChangesListed i c (written (x .answer)) (view receiver st) p q) device n (x .port) e g (listed-at {number = device} _ refl (request-keeps h)) (λ z. unlisted-kept (keeps-all _ (view n st)));
       }
   case-steps (cancel5 e) = idle refl (λ n. refl) nothing-ends [] []
   case-steps (cancelAtPort {device} {byte2} {byte3} {x} e h) =
       let c = cancel device byte2 byte3 in
       let s = sound-at device in
       record {
-        reached = reached-with (positionOf device) (position-within device) (x .port) (cancel-sound _ _ s h);
+        reached = reached-with st k (positionOf device) (position-within device) (x .port) (cancel-sound _ _ s h);
         ends = λ n g. at-port (λ i p q. EndsAt i c (cancelled (x .answer)) p q) device n (x .port) e g (ends-only device c (cancelled (x .answer)) refl refl (cancel-ends _ (s .waiting) device h)) (λ z. ends-only n c (cancelled (x .answer)) refl refl (ends-elsewhere n (view n st) (view n st) _ (cancel-apart n device h z) refl));
-        changes = λ n g. at-port (λ i p q. ChangesListed i c (cancelled (x .answer)) p q) device n (x .port) e g (listed-at {number = device} refl (cancel-keeps h)) (λ z. unlisted-kept (keeps-all _ (view n st)));
+        changes = λ n g. at-port (λ i p q. ChangesListed i c (cancelled (x .answer)) (view receiver st) p q) device n (x .port) e g (listed-at {number = device} _ refl (cancel-keeps h)) (λ z. unlisted-kept (keeps-all _ (view n st)));
       }
   case-steps tickAllPorts = on-tick
   case-steps (writeOnly {writer} {offset} {lent}) =
@@ -265,7 +342,7 @@ module _ (st : Station) (k : Reached st) where
   pub call-ends : (c : Call) (n : ℕ) → isPort n ≡ true → EndsAt n c (step st c .answer) (view n st) (view n (step st c .station))
   call-ends c = steps c .ends
 
-  pub call-changes : (c : Call) (n : ℕ) → isPort n ≡ true → ChangesListed n c (step st c .answer) (view n st) (view n (step st c .station))
+  pub call-changes : (c : Call) (n : ℕ) → isPort n ≡ true → ChangesListed n c (step st c .answer) (view receiver st) (view n st) (view n (step st c .station))
   call-changes c = steps c .changes
 
 -- a sequence of calls
