@@ -121,7 +121,7 @@ dj-fits p r bytes b =
     (λ e. by-case FitsResult (p .paired) (λ e. record { holds = tt }) (λ e. record { holds = tt }))
     (λ e. record { holds = tt }))))
 
--- nor does a drop count
+-- with another drop count a reply carries no more
 drops-fit : (dropped : ℕ) (a : answers.Answer) → FitsTaken a → FitsTaken (withDrops dropped a)
 unfolding FitsTaken
 drops-fit dropped (answers.refused number) f = f
