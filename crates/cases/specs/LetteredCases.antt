@@ -66,7 +66,7 @@ pub record LetteredCases : Type 0 where
   pub a : takeRule freshStation [] ≡ taken (answers.refused 1) freshStation
   pub b : takeRule freshStation (0x10 ∷ 0x01 ∷ 0x00 ∷ 0x13 ∷ 0x00 ∷ 0x00 ∷ []) ≡ taken (answers.refused 3) freshStation
   pub c-request : ping ≡ record { answer = writing.wrote 7; station = pinged; lent = 0xEE ∷ 0x10 ∷ 0x02 ∷ 0x00 ∷ 0x11 ∷ 0x00 ∷ 0x00 ∷ 0x5A ∷ 0xEE ∷ [] }
-  pub c-reply : takeRule pinged (0x10 ∷ 0x02 ∷ 0x00 ∷ 0x11 ∷ 0x02 ∷ 0x00 ∷ 0x5A ∷ []) ≡ taken (answers.reply (aboutShort 2 0x00 0x11)) (device2 (withVersion freshPort (versions.Known 2 0)))
+  pub c-reply : takeRule pinged (0x10 ∷ 0x02 ∷ 0x00 ∷ 0x11 ∷ 0x02 ∷ 0x00 ∷ 0x5A ∷ []) ≡ taken (answers.reply 0 (aboutShort 2 0x00 0x11)) (device2 (withVersion freshPort (versions.Known 2 0)))
   pub d : takeRule pinged (0x10 ∷ 0x03 ∷ 0x00 ∷ 0x11 ∷ 0x02 ∷ 0x00 ∷ 0x5A ∷ []) ≡ taken (answers.stray (aboutShort 3 0x00 0x11)) pinged
   pub e : takeRule pinged (0x10 ∷ 0x02 ∷ 0x8F ∷ 0x00 ∷ 0x11 ∷ 0x01 ∷ 0x00 ∷ []) ≡ taken (answers.failed (aboutShort 2 0x00 0x11) 1 0x8F) (device2 (withVersion freshPort (versions.Known 1 0)))
   pub f : takeRule freshStation pairing ≡ taken (answers.notice (answers.paired 2 false 0x2010 0x0E 0)) paired

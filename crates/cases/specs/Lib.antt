@@ -1,2 +1,4 @@
 pub mod LetteredCases
 pub mod LetteredCasesLaws
+pub mod SerialCases
+pub mod SerialCasesLaws

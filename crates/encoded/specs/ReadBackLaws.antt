@@ -21,13 +21,14 @@ use Rattle.port.specs.Waiting.{waitingAt, isFound}
 use Rattle.port.specs.declared.Port.{Port}
 use Rattle.port.specs.declared.Request.{Request}
 use Rattle.hidpp.specs.declared.Message.{Message}
-use Rattle.hidpp.specs.HidppTaking.{isError, named2, named3, errorFits, isMajor1, errorRule, replyRule, featureRule, unaskedRule, takeHidpp}
+use Rattle.hidpp.specs.HidppTaking.{messageOf, isError, named2, named3, errorFits, isMajor1, errorRule, replyRule, featureRule, unaskedRule, takeHidpp}
+use Rattle.serial.specs.Serials.{Given, noSerial, serialOf, givenBy, serialRule}
 use Rattle.dj.specs.DjTaking.{isDeclared, isPairedWith, radioRule, unpairedRule, wpidOf, reportsOf, pairedRule, linkRule, otherRule, takeDj}
 use Rattle.request.specs.Requesting.{isForbidden, RequestAt, requestBy, requestAt}
 use Rattle.listing.specs.Listing.{listingRule}
 use Rattle.station.specs.declared.Station.{Station}
-use Rattle.station.specs.Stations.{portCount}
-use Rattle.station.specs.StationTaking.{takeBy, takeRule}
+use Rattle.station.specs.Stations.{portCount, positionOf, portFor}
+use Rattle.station.specs.StationTaking.{TakeOutcome, storedAt, withDrops, alsoAt, takeBy, takeRule}
 use Rattle.station.specs.StationCalls.{RequestOutcome, requestRule, endedOn, tickAll}
 use Rattle.sequence.specs.Steps.{Writer, switch, getPaired, led, list, Call, CallAnswer, taken, written, cancelled, ticked, step, returnedBy}
 use Rattle.sequence.specs.Steps as steps
@@ -49,7 +50,7 @@ FitsTaken (answers.notice answers.emptyList) = Unit {0}
 FitsTaken (answers.notice (answers.link port up)) = Unit {0}
 FitsTaken (answers.notice (answers.other port kind)) = Unit {0}
 FitsTaken (answers.refused number) = Unit {0}
-FitsTaken (answers.reply a) = Unit {0}
+FitsTaken (answers.reply dropped a) = Unit {0}
 FitsTaken (answers.stray a) = Unit {0}
 FitsTaken (answers.plain a) = Unit {0}
 FitsTaken (answers.event a) = Unit {0}
@@ -120,11 +121,30 @@ dj-fits p r bytes b =
     (λ e. by-case FitsResult (p .paired) (λ e. record { holds = tt }) (λ e. record { holds = tt }))
     (λ e. record { holds = tt }))))
 
+-- with another drop count a reply carries no more
+drops-fit : (dropped : ℕ) (a : answers.Answer) → FitsTaken a → FitsTaken (withDrops dropped a)
+unfolding FitsTaken
+drops-fit dropped (answers.refused number) f = f
+drops-fit dropped (answers.reply before a) f = tt
+drops-fit dropped (answers.stray a) f = f
+drops-fit dropped (answers.plain a) f = f
+drops-fit dropped (answers.event a) f = f
+drops-fit dropped (answers.failed a code kind) f = f
+drops-fit dropped (answers.radio kind start size) f = f
+drops-fit dropped (answers.notice n) f = f
+
+also-fits : (st : Station) (g : Given) (o : TakeOutcome) → FitsTaken (o .answer) → FitsTaken (alsoAt st g o .answer)
+also-fits st noSerial o f = f
+also-fits st (serialOf device number) o f =
+    drops-fit (serialRule (portFor st device) number .dropped) (o .answer) f
+
 take-fits : (st : Station) (bytes : List ℕ) → Bytes bytes → (r : Read) → FitsTaken (takeBy r bytes st .answer)
 unfolding FitsTaken takeBy
 take-fits st bytes b (reading.refused number) = tt
 take-fits st bytes b (reading.emptyList r) = tt
-take-fits st bytes b (reading.hidpp r) = hidpp-fits _ _ .holds
+take-fits st bytes b (reading.hidpp r) =
+    let p = portFor st (r .device) in
+    also-fits st (givenBy p r bytes) (storedAt st (positionOf (r .device)) (takeHidpp p (messageOf r bytes))) (hidpp-fits p (messageOf r bytes) .holds)
 take-fits st bytes b (reading.dj r) = dj-fits _ r bytes b .holds
 
 abbrev FitsOutcome : writing.WriteOutcome → Type 0

@@ -24,10 +24,10 @@ bitOf false = 0
 abbrev pub row : List ℕ → List ℕ
 row values = take rowSize (values ++ replicate rowSize 0)
 
--- what the answers to a HID++ report carry; an error also its code and 0x8F or 0xFF
+-- what the answers to a HID++ report carry; a reply also its drop count, and an error its code and 0x8F or 0xFF
 abbrev pub aboutRow : ℕ → answers.About → ℕ → ℕ → List ℕ
-aboutRow kind a code error =
-    row (kind ∷ a .port ∷ a .byte2 ∷ a .byte3 ∷ a .start ∷ a .size ∷ code ∷ error ∷ [])
+aboutRow kind a value error =
+    row (kind ∷ a .port ∷ a .byte2 ∷ a .byte3 ∷ a .start ∷ a .size ∷ value ∷ error ∷ [])
 
 abbrev pub noticeRow : answers.Notice → List ℕ
 noticeRow (answers.unpaired port dropped) = row (7 ∷ port ∷ dropped ∷ [])
@@ -39,7 +39,7 @@ noticeRow (answers.other port kind) = row (11 ∷ port ∷ kind ∷ [])
 
 abbrev pub takenRow : answers.Answer → List ℕ
 takenRow (answers.refused number) = row (0 ∷ number ∷ [])
-takenRow (answers.reply a) = aboutRow 1 a 0 0
+takenRow (answers.reply dropped a) = aboutRow 1 a dropped 0
 takenRow (answers.stray a) = aboutRow 2 a 0 0
 takenRow (answers.plain a) = aboutRow 3 a 0 0
 takenRow (answers.event a) = aboutRow 4 a 0 0
@@ -79,7 +79,7 @@ aboutIn row = record { port = at row 1; byte2 = at row 2; byte3 = at row 3; star
 unfoldable pub decodeAnswer : List ℕ → CallAnswer
 decodeAnswer row =
     cond (eqb (at row 0) 0) (taken (answers.refused (at row 1)))
-    (cond (eqb (at row 0) 1) (taken (answers.reply (aboutIn row)))
+    (cond (eqb (at row 0) 1) (taken (answers.reply (at row 6) (aboutIn row)))
     (cond (eqb (at row 0) 2) (taken (answers.stray (aboutIn row)))
     (cond (eqb (at row 0) 3) (taken (answers.plain (aboutIn row)))
     (cond (eqb (at row 0) 4) (taken (answers.event (aboutIn row)))

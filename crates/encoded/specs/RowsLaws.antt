@@ -38,7 +38,7 @@ seven (a ∷ b ∷ c ∷ d ∷ f ∷ g ∷ h ∷ i ∷ l) e = absurd (omega arit
 pub reads-back : (x : CallAnswer) → FitsRow x → decodeAnswer (encodeAnswer x) ≡ x
 unfolding encodeAnswer decodeAnswer
 reads-back (taken (answers.refused number)) f = refl
-reads-back (taken (answers.reply a)) f = refl
+reads-back (taken (answers.reply dropped a)) f = refl
 reads-back (taken (answers.stray a)) f = refl
 reads-back (taken (answers.plain a)) f = refl
 reads-back (taken (answers.event a)) f = refl
@@ -65,7 +65,7 @@ tells-apart x y f g e = sym (reads-back x f) ∙ ap decodeAnswer e ∙ reads-bac
 pub row-length : (x : CallAnswer) → length (encodeAnswer x) ≡ rowSize
 unfolding encodeAnswer
 row-length (taken (answers.refused number)) = refl
-row-length (taken (answers.reply a)) = refl
+row-length (taken (answers.reply dropped a)) = refl
 row-length (taken (answers.stray a)) = refl
 row-length (taken (answers.plain a)) = refl
 row-length (taken (answers.event a)) = refl

@@ -32,8 +32,9 @@ fn bit(b: bool) -> u8
     0
 }
 
-fn of_about(kind: u8, about: About, code: u8, error: u8) -> [u8; ROW]
-    ensures { λ r. ⌜ r ≡ aboutRow kind (aboutOf about) code error ⌝ }
+// A reply's value is its drop count, an error's its code.
+fn of_about(kind: u8, about: About, value: u8, error: u8) -> [u8; ROW]
+    ensures { λ r. ⌜ r ≡ aboutRow kind (aboutOf about) value error ⌝ }
 {
     [
         kind,
@@ -42,7 +43,7 @@ fn of_about(kind: u8, about: About, code: u8, error: u8) -> [u8; ROW]
         about.byte3,
         about.start,
         about.length,
-        code,
+        value,
         error,
         0,
         0,
@@ -91,7 +92,7 @@ pub fn of_taken(answer: Taken) -> [u8; ROW]
 {
     match answer {
         Taken::Refused(refusal) => [0, refusal.number(), 0, 0, 0, 0, 0, 0, 0, 0],
-        Taken::Reply(about) => of_about(1, about, 0, 0),
+        Taken::Reply { about, dropped } => of_about(1, about, dropped, 0),
         Taken::Stray(about) => of_about(2, about, 0, 0),
         Taken::Plain(about) => of_about(3, about, 0, 0),
         Taken::Event(about) => of_about(4, about, 0, 0),
