@@ -52,8 +52,8 @@ const MAX_INDEX: u8 = 63;
 const MAX_LEVEL: u8 = 100;
 
 // The parameter with this number, counted from 0.
-fn parameter(bytes: &[u8], i: u8) -> u8
-    ensures { λ r. ⌜ r ≡ parameter (now (bytes .entry)) i ⌝ }
+pub fn parameter(bytes: &[u8], i: u8) -> u8
+    ensures parameter { λ r. ⌜ r ≡ parameter (now (bytes .entry)) i ⌝ }
 {
     report::byte_at(bytes, report::HIDPP_START as usize + i as usize)
 }

@@ -1,9 +1,13 @@
 // The station: seven ports, and the calls on them.
 ghost use mathlib.Core.Path.{_≡_};
 ghost use Prim.Native.Nat.{_<_};
+ghost use Rattle.report.specs.Reading as reading;
+ghost use Rattle.report.specs.ReportContracts.{hidppOf};
+ghost use Rattle.port.specs.PortContracts.{takenOf};
 ghost use Rattle.station.specs.Stations.{freshStation, positionOf, portCount, numberAt};
+ghost use Rattle.station.specs.StationTaking.{withDrops, takeBy};
 ghost use Rattle.station.specs.StationCalls.{tickAll};
-ghost use Rattle.station.specs.StationContracts.{tickOutcome};
+ghost use Rattle.station.specs.StationContracts.{takeOutcome, tickOutcome};
 ghost use Rattle.station.specs.StationPromises.{TakePromise, RequestPromise, CancelPromise, TickPromise, SwitchPromise, GetPairedPromise, LedPromise, ListPromise};
 use frame::Written;
 use port::Port;
@@ -13,8 +17,10 @@ use port::waiting;
 use port::waiting::Cancelled;
 use report::Device;
 use report::FeatureIndex;
+use report::HidppReport;
 use report::Reading;
 use report::Refusal;
+use serial::Given;
 
 // Devices 1 to 6 at positions 0 to 5, and the receiver at the last.
 pub struct Station {
@@ -66,6 +72,44 @@ pub fn device_at(position: u8) -> Device
     Device(report::RECEIVER)
 }
 
+// The answer with this drop count, where it is a reply.
+fn with_drops(answer: Taken, dropped: u8) -> Taken
+    ensures { λ r. ⌜ takenOf r ≡ withDrops dropped (takenOf answer) ⌝ }
+{
+    match answer {
+        Taken::Reply { about, dropped: _ } => Taken::Reply { about, dropped },
+        _ => answer,
+    }
+}
+
+// Takes a HID++ report that may give a device's serial: it is stored at that device's port.
+fn take_serial(mut station: Station, h: HidppReport, bytes: &[u8]) -> TakeResult
+    ensures { λ r. ⌜ takeOutcome r ≡ takeBy (reading.hidpp (hidppOf h)) (now (bytes .entry)) station ⌝ }
+{
+    let position = position_of(h.device);
+    let port = station.ports[position];
+    let taken = hidpp::take_at(port, h, bytes);
+    let answer = taken.answer;
+    let next = taken.port;
+    match serial::given_by(port, h, bytes) {
+        Given::Nothing => {
+            station.ports[position] = next;
+            TakeResult { answer, station }
+        }
+        Given::Serial { device, number } => {
+            let beside = position_of(device);
+            let kept = serial::keep(station.ports[beside], number);
+            let other = kept.port;
+            station.ports[position] = next;
+            station.ports[beside] = other;
+            TakeResult {
+                answer: with_drops(answer, kept.dropped),
+                station,
+            }
+        }
+    }
+}
+
 fn tick_ports(ports: [Port; port::PORTS]) -> TickResult
     ensures { λ r. ⌜ tickOutcome r ≡ tickAll (record { ports = ports }) ⌝ }
 {
@@ -111,6 +155,9 @@ impl Station {
                 station: self,
             },
             Reading::Hidpp(h) => {
+                if serial::is_report(h) {
+                    return take_serial(self, h, bytes);
+                }
                 let position = position_of(h.device);
                 let taken = hidpp::take_at(self.ports[position], h, bytes);
                 let answer = taken.answer;
