@@ -3,7 +3,7 @@ use Prim.Native.Nat.{ℕ}
 use mathlib.Core.Path.{_≡_, refl, sym, _∙_, ap}
 use mathlib.Core.Bool.{true}
 use mathlib.Core.List.{List, [], _∷_, _++_, map}
-use Rattle.report.specs.Ports.{isPort}
+use Rattle.report.specs.Ports.{isDevice, isPort}
 use Rattle.station.specs.declared.Station.{Station}
 use Rattle.sequence.specs.Starts.{Start}
 use Rattle.sequence.specs.Steps.{Call, Outcome, takeStep, requestStep, cancelStep, tickStep, writeStep, step, run}
@@ -38,10 +38,10 @@ pub record AloneInProgram (n : ℕ) (st : Station) (ms ns : List Made) : Type 0 
   pub holds : view n (stationAfter st ms) ≡ view n (stationAfter st ns)
   pub returns : compared n (remaining n (made st ms)) ≡ compared n (made st ns)
 
--- striking out leaves, for each port, the same calls in the same order
+-- striking out leaves, for each device, the same calls in the same order
 abbrev pub SameOrdersInProgram : Station → List Made → List Made → Type 0
 SameOrdersInProgram st ms ns =
-    (n : ℕ) → isPort n ≡ true → callsOf (remaining n (made st ms)) ≡ callsOf (remaining n (made st ns))
+    (n : ℕ) → isDevice n ≡ true → callsOf (remaining n (made st ms)) ≡ callsOf (remaining n (made st ns))
 
 pub alone : (n : ℕ) → isPort n ≡ true → (st : Station) → Start st → (ms ns : List Made) → History st ms → History st ns → map callOf ns ≡ callsOf (remaining n (made st ms)) → AloneInProgram n st ms ns
 alone n h st begins ms ns k l e =

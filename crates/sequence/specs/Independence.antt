@@ -1,9 +1,9 @@
--- Document 01, "Sequences of calls": each port ends as if the other ports' calls had never been made, and so do any two orders. Of the rules.
+-- Document 01, "Sequences of calls", and document 02, Ask 1: each port ends as if the other ports' calls had never been made, but for those of 255, and so do any two orders. Of the rules.
 use Prim.Native.Nat.{ℕ}
 use mathlib.Core.Path.{_≡_}
 use mathlib.Core.Bool.{true}
 use mathlib.Core.List.{List}
-use Rattle.report.specs.Ports.{isPort}
+use Rattle.report.specs.Ports.{isDevice}
 use Rattle.station.specs.declared.Station.{Station}
 use Rattle.sequence.specs.Steps.{Call, run}
 use Rattle.sequence.specs.Transcripts.{transcript, callsOf}
@@ -18,6 +18,6 @@ pub record Alone (n : ℕ) (st : Station) (cs : List Call) : Type 0 where
   pub holds : view n (run st cs) ≡ view n (run st (remains n st cs))
   pub returns : compared n (remaining n (transcript st cs)) ≡ compared n (transcript st (remains n st cs))
 
--- two orders: striking out leaves, for each port, the same calls in the same order
+-- two orders: striking out leaves, for each device, the same calls in the same order; its own, the ticks and those for 255 keep one sequence
 abbrev pub SameOrders : Station → List Call → List Call → Type 0
-SameOrders st cs ds = (n : ℕ) → isPort n ≡ true → remains n st cs ≡ remains n st ds
+SameOrders st cs ds = (n : ℕ) → isDevice n ≡ true → remains n st cs ≡ remains n st ds

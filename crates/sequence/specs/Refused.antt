@@ -9,7 +9,7 @@ use Rattle.sequence.specs.Steps.{Call, readOf, lentOf, CallAnswer, taken
 
 abbrev pub takeRefused : answers.Answer → Bool
 takeRefused (answers.refused number) = true
-takeRefused (answers.reply a) = false
+takeRefused (answers.reply dropped a) = false
 takeRefused (answers.stray a) = false
 takeRefused (answers.plain a) = false
 takeRefused (answers.event a) = false

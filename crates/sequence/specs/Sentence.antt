@@ -23,7 +23,7 @@ isEmptyNotice (answers.other port kind) = false
 -- a take refused with 1 to 6, or answered with an empty-list notice
 abbrev pub takeForNone : answers.Answer → Bool
 takeForNone (answers.refused number) = leb number 6
-takeForNone (answers.reply a) = false
+takeForNone (answers.reply dropped a) = false
 takeForNone (answers.stray a) = false
 takeForNone (answers.plain a) = false
 takeForNone (answers.event a) = false

@@ -12,17 +12,18 @@ use Rattle.report.specs.Reading as reading
 use Rattle.report.specs.Reading.{Report, Read, reportFrom, readRule}
 use Rattle.frame.specs.Writing as writing
 use Rattle.port.specs.declared.Port.{Port}
-use Rattle.port.specs.Answers.{Answer, refused, Result}
+use Rattle.port.specs.Answers.{Answer, refused, reply, stray, plain, event, failed, radio, notice, Result}
 use Rattle.port.specs.Waiting as waiting
 use Rattle.hidpp.specs.declared.Message.{Message}
 use Rattle.hidpp.specs.HidppTaking.{messageOf, isError, errorFits, named2, named3, isMajor1, errorRule, replyRule, featureRule, unaskedRule, takeHidpp}
+use Rattle.serial.specs.Serials.{Given, noSerial, serialOf, givenBy, serialRule}
 use Rattle.dj.specs.DjTaking.{isDeclared, wpidOf, isPairedWith, radioRule, unpairedRule, pairedRule, linkRule, otherRule, takeDj}
 use Rattle.request.specs.Requesting.{isForbidden, RequestAt, refusedAt, waitingRequest, requestBy, requestAt}
 use Rattle.listing.specs.Listing.{listingRule}
 use Rattle.station.specs.declared.Station.{Station}
-use Rattle.station.specs.Stations.{positionOf, portAt, withPort}
+use Rattle.station.specs.Stations.{positionOf, portAt, portFor, withPort}
 use Rattle.station.specs.StationsLaws.{same-port}
-use Rattle.station.specs.StationTaking.{takeBy, takeRule}
+use Rattle.station.specs.StationTaking.{TakeOutcome, storedAt, withDrops, alsoAt, takeBy, takeRule}
 use Rattle.station.specs.StationCalls.{requestRule, cancelRule}
 use Rattle.sequence.specs.Steps as steps
 use Rattle.sequence.specs.Steps.{Writer, switch, getPaired, led, list, Call, take, request, cancel, tick, write, Outcome, takeStep, requestStep, cancelStep, writeStep, writerRule, step, writerRow, target}
@@ -32,24 +33,47 @@ use Rattle.sequence.specs.Refused.{takeRefused, writeRefused, cancelRefu
 use Rattle.sequence.specs.Readings.{ReadFits}
 use Rattle.sequence.specs.ReadingsLaws.{read-fits}
 
+-- an answer that is for the port, and no refusal
+abbrev Answered : Answer → Type 0
+Answered a = (takeForNone a ≡ false) × (takeRefused a ≡ false)
+
+abbrev AnsweredAt : Result → Type 0
+AnsweredAt r = Answered (r .answer)
+
+-- a drop count changes neither
+drops-kind : (dropped : ℕ) (a : Answer) → Answered a → Answered (withDrops dropped a)
+drops-kind dropped (refused number) h = h
+drops-kind dropped (reply before a) h = h
+drops-kind dropped (stray a) h = h
+drops-kind dropped (plain a) h = h
+drops-kind dropped (event a) h = h
+drops-kind dropped (failed a code kind) h = h
+drops-kind dropped (radio kind start size) h = h
+drops-kind dropped (notice n) h = h
+
+also-kind : (st : Station) (g : Given) (o : TakeOutcome) → Answered (o .answer) → Answered (alsoAt st g o .answer)
+also-kind st noSerial o h = h
+also-kind st (serialOf device serial) o h =
+    drops-kind (serialRule (portFor st device) serial .dropped) (o .answer) h
+
 -- what a call gives at its port: an answer that is for the port, or a refusal that is for it and leaves it
 module _ (p : Port) where
   data TakeKind : Result → Type 0 where
     answers : {a : Answer} {q : Port} → takeForNone a ≡ false → takeRefused a ≡ false → TakeKind (record { answer = a; port = q })
     refuses : {number : ℕ} → takeForNone (refused number) ≡ false → TakeKind (record { answer = refused number; port = p })
 
-  hidpp-kind : (m : Message) → TakeKind (takeHidpp p m)
+  hidpp-kind : (m : Message) → Answered (takeHidpp p m .answer)
   unfolding takeHidpp errorRule replyRule unaskedRule featureRule
   hidpp-kind m =
-      by-case TakeKind (isError (m .byte2 .0))
-      (λ e. by-case TakeKind (errorFits m && waiting.isFound (waiting.waitingAt p (named2 m) (named3 m))) (λ q. answers refl refl) (λ q. answers refl refl))
-      (λ e. by-case TakeKind (waiting.isFound (waiting.waitingAt p (m .byte2 .0) (m .byte3))) (λ q. answers refl refl)
-      (λ q. by-case TakeKind (inRange 0x80 (m .byte2 .0) 0x83) (λ z. answers refl refl)
-      (λ z. by-case TakeKind (inRange 0x40 (m .byte2 .0) 0x7F) (λ y. answers refl refl)
-      (λ y. by-case TakeKind (isFeature (m .byte2 .0))
-      (λ x. by-case TakeKind (isMajor1 (p .version)) (λ w. answers refl refl)
-      (λ w. by-case TakeKind (eqb (softwareId (m .byte3)) 0) (λ v. answers refl refl) (λ v. answers refl refl)))
-      (λ x. answers refl refl)))))
+      by-case AnsweredAt (isError (m .byte2 .0))
+      (λ e. by-case AnsweredAt (errorFits m && waiting.isFound (waiting.waitingAt p (named2 m) (named3 m))) (λ q. (refl, refl)) (λ q. (refl, refl)))
+      (λ e. by-case AnsweredAt (waiting.isFound (waiting.waitingAt p (m .byte2 .0) (m .byte3))) (λ q. (refl, refl))
+      (λ q. by-case AnsweredAt (inRange 0x80 (m .byte2 .0) 0x83) (λ z. (refl, refl))
+      (λ z. by-case AnsweredAt (inRange 0x40 (m .byte2 .0) 0x7F) (λ y. (refl, refl))
+      (λ y. by-case AnsweredAt (isFeature (m .byte2 .0))
+      (λ x. by-case AnsweredAt (isMajor1 (p .version)) (λ w. (refl, refl))
+      (λ w. by-case AnsweredAt (eqb (softwareId (m .byte3)) 0) (λ v. (refl, refl)) (λ v. (refl, refl))))
+      (λ x. (refl, refl))))))
 
   dj-kind : (r : Report) (bytes : List ℕ) → TakeKind (takeDj p r bytes)
   unfolding takeDj radioRule unpairedRule pairedRule linkRule otherRule
@@ -158,11 +182,11 @@ module _ (st : Station) where
       }
   take-kind bytes (reading.emptyList r) n = record { says = refl; kept = λ e. absurd (false≢true e) }
   take-kind bytes (reading.hidpp r) n =
-      let p = portAt st (positionOf (r .device)) in
-      let k = hidpp-kind p (messageOf r bytes) in
+      let p = portFor st (r .device) in
+      let k = also-kind st (givenBy p r bytes) (storedAt st (positionOf (r .device)) (takeHidpp p (messageOf r bytes))) (hidpp-kind p (messageOf r bytes)) in
       record {
-        says = ap (λ (x : Report). one (x .device)) (n .1 .1) ∙ is-one (byte bytes 1) (take-some p k);
-        kept = λ e. record { station = restored (positionOf (r .device)) (take-kept p k e); read = refl; lent = refl };
+        says = ap (λ (x : Report). one (x .device)) (n .1 .1) ∙ is-one (byte bytes 1) (k .0);
+        kept = λ e. absurd (false≢true (sym (k .1) ∙ e));
       }
   take-kind bytes (reading.dj r) n =
       let p = portAt st (positionOf (r .device)) in

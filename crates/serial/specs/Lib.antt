@@ -1,3 +1,5 @@
 pub mod Serials
 pub mod SerialContracts
 pub mod SerialLaws
+pub mod Giving
+pub mod GivingLaws

@@ -21,10 +21,7 @@ const LAST: u8 = FIRST + report::DEVICES - 1;
 // What a report gives: no serial, or that of a device.
 pub enum Given {
     Nothing,
-    Serial {
-        device: Device,
-        number: u32,
-    },
+    Serial { device: Device, number: u32 },
 }
 
 // What a serial does at its device's port: how many requests it drops there, and the port after it.

@@ -21,7 +21,7 @@ storedAt st position r = record { answer = r .answer; station = withPort st posi
 -- a reply with this drop count
 abbrev pub withDrops : ℕ → Answer → Answer
 withDrops dropped (refused number) = refused number
-withDrops dropped (reply none a) = reply dropped a
+withDrops dropped (reply before a) = reply dropped a
 withDrops dropped (stray a) = stray a
 withDrops dropped (plain a) = plain a
 withDrops dropped (event a) = event a
