@@ -16,7 +16,7 @@ fn say(word: &[u8], number: u64) {
 fn say_answer(answer: Taken) {
     match answer {
         Taken::Refused(refusal) => say(b"refused with ", refusal.number() as u64),
-        Taken::Reply(about) => say(b"reply of port ", about.port.0 as u64),
+        Taken::Reply { about, .. } => say(b"reply of port ", about.port.0 as u64),
         Taken::Stray(about) => say(b"stray of port ", about.port.0 as u64),
         Taken::Plain(about) => say(b"notice of port ", about.port.0 as u64),
         Taken::Event(about) => say(b"event of port ", about.port.0 as u64),

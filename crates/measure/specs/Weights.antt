@@ -12,7 +12,7 @@ aboutWeight base a = base + a .port + a .byte2 + a .byte3 + a .start + a .size
 -- a notice has no more than its base
 abbrev pub takeWeight : Answer → ℕ
 takeWeight (refused number) = number
-takeWeight (reply a) = aboutWeight 1000 a
+takeWeight (reply dropped a) = aboutWeight (1000 + dropped) a
 takeWeight (stray a) = aboutWeight 2000 a
 takeWeight (plain a) = aboutWeight 3000 a
 takeWeight (event a) = aboutWeight 4000 a

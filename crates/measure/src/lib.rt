@@ -46,7 +46,7 @@ fn take_weight(answer: Taken) -> u64
 {
     match answer {
         Taken::Refused(refusal) => refusal.number() as u64,
-        Taken::Reply(a) => about_weight(1000, a),
+        Taken::Reply { about, dropped } => about_weight(1000 + (dropped as u16), about),
         Taken::Stray(a) => about_weight(2000, a),
         Taken::Plain(a) => about_weight(3000, a),
         Taken::Event(a) => about_weight(4000, a),

@@ -9,7 +9,7 @@ use Rattle.port.specs.Records.{featureCount, placeCount}
 use Rattle.port.specs.declared.Port.{Port}
 use Rattle.port.specs.declared.Request.{Request}
 use Rattle.text.specs.Words.{ascii, hex, decimal}
-use Rattle.text.specs.Texts.{each, digits8, digits16, digits32, byteMost, linkText, linkMost, versionText, versionMost, batteryText, batteryMost}
+use Rattle.text.specs.Texts.{each, digits8, digits16, digits32, byteMost, linkText, linkMost, versionText, versionMost, batteryText, batteryMost, serialText, serialMost}
 use Rattle.station.specs.Stations.{portCount, numberAt}
 use Rattle.station.specs.declared.Station.{Station}
 use Rattle.replay_fields.specs.AnswerFields.{field, fieldMost, line, lineEnd, byteText, flag, flagMost, commaMost, parted}
@@ -70,6 +70,7 @@ portLine number p =
     ∷ field "features" (featuresText (p .features))
     ∷ field "battery" (batteryText (p .battery))
     ∷ field "places" (placesText (p .places))
+    ∷ field "serial" (serialText (p .serial))
     ∷ [])
 
 -- each name with its value at its longest, and a newline
@@ -85,6 +86,7 @@ portMost =
     + fieldMost "features" (featureMost * featureCount)
     + fieldMost "battery" batteryMost
     + fieldMost "places" (placeMost * placeCount)
+    + fieldMost "serial" serialMost
     + lineEnd
 
 -- a line for each port, under its number: 1 to 6, and then 255

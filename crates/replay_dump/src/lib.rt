@@ -19,7 +19,7 @@ const PLACE: usize = 1
     + 4 * (1 + text::DIGITS_8 as usize)
     + (1 + text::BYTE_MOST);
 
-// The longest line of a port: `port=`, ` paired=`, ` wpid=`, ` reports=`, ` link=`, ` version=`, ` features=`, ` battery=` and ` places=`, each with its value at its longest, and the newline.
+// The longest line of a port: `port=`, ` paired=`, ` wpid=`, ` reports=`, ` link=`, ` version=`, ` features=`, ` battery=`, ` places=` and ` serial=`, each with its value at its longest, and the newline.
 const PORT: usize = (5 + text::BYTE_MOST)
     + (8 + 1)
     + (6 + text::DIGITS_16 as usize)
@@ -29,6 +29,7 @@ const PORT: usize = (5 + text::BYTE_MOST)
     + (10 + FEATURE * port::FEATURES)
     + (9 + text::BATTERY_MOST)
     + (8 + PLACE * port::PLACES)
+    + (8 + text::SERIAL_MOST)
     + 1;
 
 // Room for every dump.
@@ -98,6 +99,7 @@ fn put_port(buffer: &mut [u8], at: usize, port: Port, number: Device) -> usize
     let features = port.features;
     let battery = port.battery;
     let places = port.places;
+    let serial = port.serial;
     let at = replay_fields::put_number(buffer, at, b"port=", number.0);
     let at = replay_fields::put_flag(buffer, at, b" paired=", port.paired);
     let at = replay_fields::put_wide(buffer, at, b" wpid=", text::DIGITS_16, port.wpid as usize);
@@ -117,6 +119,8 @@ fn put_port(buffer: &mut [u8], at: usize, port: Port, number: Device) -> usize
     let at = text::put_battery(buffer, at, battery);
     let at = text::put_word(buffer, at, b" places=");
     let at = put_places(buffer, at, places);
+    let at = text::put_word(buffer, at, b" serial=");
+    let at = text::put_serial(buffer, at, serial);
     text::put_byte(buffer, at, b'\n')
 }
 

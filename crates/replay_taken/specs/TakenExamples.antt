@@ -14,9 +14,14 @@ refused : takenText (taking.refused 7) ≡ ascii "refused 7\n"
 unfolding takenText refusedText decimal decimalIn digit
 refused = refl
 
-reply : takenText (taking.reply asked) ≡ ascii "reply port=2 byte2=00 byte3=11 start=4 length=3\n"
+reply : takenText (taking.reply 0 asked) ≡ ascii "reply port=2 byte2=00 byte3=11 start=4 length=3 dropped=0\n"
 unfolding takenText aboutText hex decimal decimalIn digit
 reply = refl
+
+-- the receiver's reply that changed a device's serial
+serial : takenText (taking.reply 2 (record { port = 255; byte2 = 0x83; byte3 = 0xB5; start = 4; size = 16 })) ≡ ascii "reply port=255 byte2=83 byte3=B5 start=4 length=16 dropped=2\n"
+unfolding takenText aboutText hex decimal decimalIn digit
+serial = refl
 
 error : takenText (taking.failed asked 0x01 0x8F) ≡ ascii "error port=2 byte2=00 byte3=11 start=4 length=3 code=01 kind=8F\n"
 unfolding takenText aboutText hex decimal decimalIn digit

@@ -35,7 +35,8 @@ noticeText (taking.other port kind) =
 
 unfoldable pub takenText : taking.Answer → List ℕ
 takenText (taking.refused number) = refusedText number
-takenText (taking.reply a) = line (ascii "reply" ∷ aboutText a ∷ [])
+takenText (taking.reply dropped a) =
+    line (ascii "reply" ∷ aboutText a ∷ field "dropped" (decimal dropped) ∷ [])
 takenText (taking.stray a) = line (ascii "stray" ∷ aboutText a ∷ [])
 takenText (taking.plain a) = line (ascii "plain" ∷ aboutText a ∷ [])
 takenText (taking.event a) = line (ascii "event" ∷ aboutText a ∷ [])

@@ -4,7 +4,7 @@ ghost use mathlib.Core.Path.{_≡_};
 ghost use Prim.Native.Nat.{_+_};
 ghost use lib.ListN.{length};
 ghost use Rattle.text.specs.Putting.{filled, Puts, wholeRule};
-ghost use Rattle.port.specs.Answers.{radio, failed, paired};
+ghost use Rattle.port.specs.Answers.{reply, radio, failed, paired};
 ghost use Rattle.replay_fields.specs.AnswerFields.{line, lineEnd, aboutMost, answerMost};
 ghost use Rattle.replay_taken.specs.TakenLines.{aboutText, noticeText, takenText};
 ghost use Rattle.port.specs.PortContracts.{aboutOf, noticeOf, kindNumber, takenOf};
@@ -33,6 +33,16 @@ fn put_carried(buffer: &mut [u8], at: usize, word: &[u8], about: About) -> usize
 {
     let at = text::put_word(buffer, at, word);
     let at = put_about(buffer, at, about);
+    text::put_byte(buffer, at, b'\n')
+}
+
+// A reply also carries the number of requests that it dropped.
+fn put_reply(buffer: &mut [u8], at: usize, about: About, dropped: u8) -> usize
+    ensures { λ r. ⌜ Puts answerMost (takenText (reply dropped (aboutOf about))) at (now (buffer .entry)) r (now (buffer .exit)) ⌝ }
+{
+    let at = text::put_word(buffer, at, b"reply");
+    let at = put_about(buffer, at, about);
+    let at = replay_fields::put_number(buffer, at, b" dropped=", dropped);
     text::put_byte(buffer, at, b'\n')
 }
 
@@ -109,7 +119,7 @@ fn put_taken_line(buffer: &mut [u8], at: usize, answer: Taken) -> usize
 {
     match answer {
         Taken::Refused(refusal) => replay_fields::put_refused(buffer, at, refusal),
-        Taken::Reply(about) => put_carried(buffer, at, b"reply", about),
+        Taken::Reply { about, dropped } => put_reply(buffer, at, about, dropped),
         Taken::Stray(about) => put_carried(buffer, at, b"stray", about),
         Taken::Plain(about) => put_carried(buffer, at, b"plain", about),
         Taken::Event(about) => put_carried(buffer, at, b"event", about),

@@ -1,4 +1,4 @@
--- Document 01, "Port listing": texts one after another, and the text of a link, of a version and of a battery.
+-- Document 01, "Port listing", and document 02, Ask 1 (the serial): texts one after another, and the text of a link, of a version, of a battery and of a serial.
 use Prim.Native.Nat.{ℕ, suc, _+_, _*_}
 use mathlib.Core.List.{List, [], _∷_, _++_}
 use mathlib.Core.Bool.{Bool, cond}
@@ -7,7 +7,9 @@ use Rattle.port.specs.declared.Version.{Version}
 use Rattle.port.specs.declared.Version.the-variants as versions
 use Rattle.port.specs.declared.Battery.{Battery}
 use Rattle.port.specs.declared.Battery.the-variants as batteries
-use Rattle.text.specs.Words.{ascii, decimal}
+use Rattle.port.specs.declared.Serial.{Serial}
+use Rattle.port.specs.declared.Serial.the-variants as serials
+use Rattle.text.specs.Words.{ascii, hex, decimal}
 
 -- the text of each element in order; the number counts the elements before it
 unfoldable pub eachFrom : {A : Type 0} → (ℕ → A → List ℕ) → ℕ → List A → List ℕ
@@ -61,3 +63,11 @@ batteryText (batteries.Known level next status) =
 
 abbrev pub batteryMost : ℕ
 batteryMost = byteMost + (length (ascii ",") + (byteMost + (length (ascii ",") + byteMost)))
+
+-- eight hexadecimal digits
+unfoldable pub serialText : Serial → List ℕ
+serialText serials.Unknown = unknown
+serialText (serials.Known number) = hex digits32 number
+
+abbrev pub serialMost : ℕ
+serialMost = digits32

@@ -4,8 +4,9 @@ ghost use Prim.Native.Nat.{_<_};
 ghost use lib.ListN.{length};
 ghost use Rattle.text.specs.Words.{digit, hex, decimal};
 ghost use Rattle.text.specs.Putting.{Puts};
-ghost use Rattle.text.specs.Texts.{numberMost, byteMost, linkText, linkMost, versionText, versionMost, batteryText, batteryMost};
+ghost use Rattle.text.specs.Texts.{numberMost, byteMost, linkText, linkMost, versionText, versionMost, batteryText, batteryMost, serialText, serialMost};
 use port::Battery;
+use port::Serial;
 use port::Version;
 
 // The hexadecimal digits of a number of 8, of 16 and of 32 bits.
@@ -15,7 +16,7 @@ pub const DIGITS_16: u8 = 2 * DIGITS_8;
 
 pub const DIGITS_32: u8 = 2 * DIGITS_16;
 
-// The longest text of a number of 64 bits and of a byte, both in decimal, of a link, of a version and of a battery.
+// The longest text of a number of 64 bits and of a byte, both in decimal, of a link, of a version, of a battery and of a serial.
 pub const NUMBER_MOST: usize = 20;
 
 pub const BYTE_MOST: usize = 3;
@@ -25,6 +26,8 @@ pub const LINK_MOST: usize = 4;
 pub const VERSION_MOST: usize = 2 * BYTE_MOST + 1;
 
 pub const BATTERY_MOST: usize = 3 * BYTE_MOST + 2;
+
+pub const SERIAL_MOST: usize = DIGITS_32 as usize;
 
 const DIGITS: [u8; 16] = [
     b'0',
@@ -139,5 +142,14 @@ pub fn put_battery(buffer: &mut [u8], at: usize, battery: Battery) -> usize
             let at = put_byte(buffer, at, b',');
             put_small(buffer, at, status)
         }
+    }
+}
+
+pub fn put_serial(buffer: &mut [u8], at: usize, serial: Serial) -> usize
+    ensures put { λ r. ⌜ Puts serialMost (serialText serial) at (now (buffer .entry)) r (now (buffer .exit)) ⌝ }
+{
+    match serial {
+        Serial::Unknown => put_byte(buffer, at, b'-'),
+        Serial::Known(number) => put_hex(buffer, at, DIGITS_32, number as usize),
     }
 }

@@ -11,19 +11,19 @@ returns c = rw (c .before .before .before .before .before .answer .given .1) (an
 
 returns-2 : tie.Need-returns-2
 unfolding takenText
-returns-2 c = rw (c .before .before .before .before .before .before .answer2 .given .1) (an-answer tt (c .before .before .put-carried .ensures))
+returns-2 c = rw (c .before .before .before .before .before .answer2 .given .1) (c .before .before .put-reply .ensures)
 
 returns-3 : tie.Need-returns-3
 unfolding takenText
-returns-3 c = rw (c .before .before .before .before .before .before .answer3 .given .1) (an-answer tt (c .before .before .put-carried2 .ensures))
+returns-3 c = rw (c .before .before .before .before .before .before .answer3 .given .1) (an-answer tt (c .before .before .put-carried .ensures))
 
 returns-4 : tie.Need-returns-4
 unfolding takenText
-returns-4 c = rw (c .before .before .before .before .before .before .answer4 .given .1) (an-answer tt (c .before .before .put-carried3 .ensures))
+returns-4 c = rw (c .before .before .before .before .before .before .answer4 .given .1) (an-answer tt (c .before .before .put-carried2 .ensures))
 
 returns-5 : tie.Need-returns-5
 unfolding takenText
-returns-5 c = rw (c .before .before .before .before .before .before .answer5 .given .1) (an-answer tt (c .before .before .put-carried4 .ensures))
+returns-5 c = rw (c .before .before .before .before .before .before .answer5 .given .1) (an-answer tt (c .before .before .put-carried3 .ensures))
 
 returns-6 : tie.Need-returns-6
 unfolding takenText
@@ -43,7 +43,6 @@ put-taken-line-spec =
     (tie.spec
     (λ c. search needs)
     (λ c κs. search needs)
-    (λ c. search needs)
     (λ c. search needs)
     (λ c κs. search needs)
     (λ c. search needs)
