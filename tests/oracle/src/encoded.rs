@@ -130,7 +130,10 @@ fn take_row(taken: Result<Taken, Refusal>) -> Row {
         }) => {
             let mut values = vec![port.byte(), key.byte2, key.byte3, 4, length as u8];
             let kind = match outcome {
-                Outcome::Reply => 1,
+                Outcome::Reply { dropped } => {
+                    values.push(dropped);
+                    1
+                }
                 Outcome::Stray => 2,
                 Outcome::Plain => 3,
                 Outcome::Event => 4,
