@@ -657,7 +657,7 @@ pub fn replay(input: impl BufRead, mut output: impl Write) -> Result<(), Failure
 }
 
 /// Hands on each line of a script; the last may lack its newline.
-fn for_each_line(
+pub fn for_each_line(
     mut input: impl BufRead,
     mut each: impl FnMut(Line) -> io::Result<()>,
 ) -> Result<(), Failure> {
