@@ -10,7 +10,7 @@ static uint64_t take_weight(const struct plain_answer *answer)
 {
     switch (answer->kind) {
     case PLAIN_REFUSED: return answer->refusal;
-    case PLAIN_REPLY: return about_weight(1000, answer);
+    case PLAIN_REPLY: return about_weight(1000u + answer->dropped, answer);
     case PLAIN_STRAY: return about_weight(2000, answer);
     case PLAIN_PLAIN: return about_weight(3000, answer);
     case PLAIN_EVENT: return about_weight(4000, answer);

@@ -8,6 +8,8 @@ enum { ERROR_1 = 0x8F, ERROR_2 = 0xFF };
 enum { INVALID_SUB_ID = 1 };
 enum { MAX_INDEX = 63, MAX_LEVEL = 100 };
 enum { BATTERY = 3, WIRELESS_STATUS = 4 };
+/* A long register of the receiver, by its name in document 004, and the first parameter that asks for device 1. */
+enum { PAIRING_INFORMATION = 0xB5, FIRST_SERIAL = 0x30 };
 enum { RADIO_TYPES = 32 };
 enum { LONGEST_LISTING = 305 };
 
@@ -105,6 +107,45 @@ static void record_reply(struct plain_port *port, const struct plain_request *re
     }
 }
 
+/* Another device of the same model: all but pairing, WPID and bitfield is forgotten. */
+static void replace_device(struct plain_port *port)
+{
+    uint16_t wpid = port->wpid;
+    uint32_t reports = port->reports;
+
+    memset(port, 0, sizeof *port);
+    port->paired = true;
+    port->wpid = wpid;
+    port->reports = reports;
+}
+
+/* 02, Ask 1: gives the number of requests dropped. The request is still in its place. */
+static uint8_t record_serial(struct plain_station *station, const struct plain_request *request,
+                             const uint8_t *bytes)
+{
+    uint8_t first = bytes[4], dropped = 0;
+    struct plain_port *port;
+    uint32_t serial;
+
+    if (bytes[2] != GET_LONG_REGISTER || bytes[3] != PAIRING_INFORMATION)
+        return 0;
+    if (bytes[0] != HIDPP_LONG || bytes[1] != RECEIVER || request->first[0] != first)
+        return 0;
+    if (first < FIRST_SERIAL || first >= FIRST_SERIAL + PLAIN_DEVICES)
+        return 0;
+    port = &station->ports[first - FIRST_SERIAL];
+    if (!port->paired)
+        return 0;
+    serial = (uint32_t)bytes[5] << 24 | (uint32_t)bytes[6] << 16 | (uint32_t)bytes[7] << 8 | bytes[8];
+    if (port->serial_known && port->serial != serial) {
+        dropped = count_waiting(port);
+        replace_device(port);
+    }
+    port->serial_known = true;
+    port->serial = serial;
+    return dropped;
+}
+
 static void record_event(struct plain_port *port, const uint8_t *bytes)
 {
     if (bytes[3] != 0)
@@ -139,9 +180,10 @@ static enum plain_kind take_error(struct plain_port *port, const uint8_t *bytes,
     return PLAIN_FAILED;
 }
 
-static enum plain_kind take_hidpp(struct plain_port *port, const uint8_t *bytes,
+static enum plain_kind take_hidpp(struct plain_station *station, const uint8_t *bytes,
                                   struct plain_answer *answer)
 {
+    struct plain_port *port = port_of(station, bytes[1]);
     struct plain_request *request;
 
     if (bytes[2] == ERROR_1 || bytes[2] == ERROR_2)
@@ -149,6 +191,7 @@ static enum plain_kind take_hidpp(struct plain_port *port, const uint8_t *bytes,
     request = waiting(port, bytes[2], bytes[3]);
     if (request != NULL) {
         record_reply(port, request, bytes);
+        answer->dropped = record_serial(station, request, bytes);
         end_request(request);
         return PLAIN_REPLY;
     }
@@ -258,7 +301,7 @@ void plain_take(struct plain_station *station, const uint8_t *bytes, size_t leng
         answer->byte3 = bytes[3];
         answer->start = HIDPP_PARAMETERS;
         answer->length = (uint8_t)(length - HIDPP_PARAMETERS);
-        answer->kind = take_hidpp(port_of(station, bytes[1]), bytes, answer);
+        answer->kind = take_hidpp(station, bytes, answer);
     } else if (bytes[2] < DEVICE_UNPAIRED) {
         take_radio(port_of(station, bytes[1]), bytes, length, answer);
     } else if (bytes[2] == DEVICE_PAIRED && (bytes[3] & PAIRED_EMPTY) != 0) {

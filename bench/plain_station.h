@@ -1,4 +1,4 @@
-/* The station of document 01 in plain C, changed in place, to compare the library's cost with. It shares
+/* The station of documents 01 and 02 in plain C, changed in place, to compare the library's cost with. It shares
  * the header's refusal numbers, and nothing else, with the library. */
 #ifndef PLAIN_STATION_H
 #define PLAIN_STATION_H
@@ -27,9 +27,10 @@ struct plain_request {
 
 struct plain_port {
     uint32_t reports;
+    uint32_t serial;
     uint16_t wpid;
     bool paired, up;
-    bool version_known, battery_known;
+    bool version_known, battery_known, serial_known;
     uint8_t major, minor;
     uint8_t level, next, status;
     uint8_t features[PLAIN_FEATURES];
@@ -63,7 +64,7 @@ struct plain_answer {
     uint8_t port, byte2, byte3, start, length;
     uint8_t code, error; /* failed: error is 0x8F or 0xFF */
     uint8_t type;        /* radio, other */
-    uint8_t dropped;     /* unpaired, paired */
+    uint8_t dropped;     /* reply, unpaired, paired */
     bool more, up;       /* paired; link */
     uint16_t wpid;       /* paired */
     uint32_t reports;    /* paired */

@@ -11,7 +11,7 @@
 
 #include "measure.h"
 
-enum { MAX_CALLS = 600, BUFFER = 400 };
+enum { MAX_CALLS = 700, BUFFER = 400 };
 
 struct sequence {
     size_t calls;
@@ -25,7 +25,7 @@ struct outcome {
 
 /* Each sequence is made by a function of its own on either side, so that callgrind has a line for each. */
 #define SCRIPTS(X) \
-    X(setup) X(mouse) X(refused) X(event) X(request) X(reply) X(error) X(cancel) X(tick) X(list)
+    X(setup) X(mouse) X(refused) X(event) X(request) X(reply) X(error) X(cancel) X(tick) X(list) X(serial)
 
 #define INDEX(name) sequence_##name,
 enum { SCRIPTS(INDEX) SEQUENCE_COUNT };
@@ -65,6 +65,7 @@ static const struct {
     {sequence_cancel, sequence_request, 0, "cancel"},
     {sequence_tick, sequence_request, 0, "tick"},
     {sequence_list, sequence_setup, 0, "listing"},
+    {sequence_serial, sequence_setup, 0, "serial, asked and told"},
 };
 enum { LINES = sizeof lines / sizeof lines[0] };
 
@@ -74,6 +75,7 @@ static uint8_t *add(struct sequence *sequence, enum call kind)
 
     if (sequence->calls++ == MAX_CALLS)
         abort();
+    memset(call, 0, CALL_SIZE);
     call[0] = (uint8_t)kind;
     return call;
 }
@@ -145,6 +147,8 @@ static void write_sequences(void)
         TAKE_REPORT(&sequences[sequence_refused], 0x20, 0x02, 0x04, 0x01);
         TAKE_REPORT(&sequences[sequence_event], 0x11, 0x02, 0x07, 0x00, 0x32, 0x28, 0x01);
         add(&sequences[sequence_list], LIST);
+        add_request(&sequences[sequence_serial], 0xFF, 0x83, 0xB5, 0x31, 0x00);
+        TAKE_REPORT(&sequences[sequence_serial], 0x11, 0xFF, 0x83, 0xB5, 0x31, 0xFB, 0x84, 0x1B, 0x86);
     }
     /* A request in every place of every port, and then what ends it. */
     for (int sequence = sequence_request; sequence <= sequence_tick; sequence++)
@@ -263,6 +267,25 @@ static void add_random(struct sequence *sequence)
         call[CALL_HEAD] = ids[id];
 }
 
+/* A device is paired, or its serial is asked for or told, one of two. */
+static void add_random_serial(struct sequence *sequence)
+{
+    uint8_t device = port(rand() % 6), parameter = (uint8_t)(0x2F + device + (rand() % 16 == 0));
+
+    switch (rand() % 4) {
+    case 0:
+        TAKE_REPORT(sequence, 0x20, device, 0x41, 0x00, 0x10, 0x20, 0x0E);
+        break;
+    case 1:
+        TAKE_REPORT(sequence, rand() % 16 == 0 ? 0x10 : 0x11, 0xFF, 0x83, 0xB5, parameter, 0x84, (uint8_t)(rand() % 2));
+        break;
+    default:
+        add_request(sequence, 0xFF, 0x83, 0xB5, parameter, 0x00);
+        TAKE_REPORT(sequence, 0x11, 0xFF, 0x83, 0xB5, parameter, 0x84, 0x1B, 0x86, (uint8_t)(rand() % 2));
+        break;
+    }
+}
+
 static void compare(void)
 {
     enum { RANDOM_SCRIPTS = 20000 };
@@ -273,7 +296,7 @@ static void compare(void)
     for (int i = 0; i < RANDOM_SCRIPTS; i++) {
         sequence.calls = 0;
         while (sequence.calls < 200)
-            add_random(&sequence);
+            (rand() % 10 == 0 ? add_random_serial : add_random)(&sequence);
         add(&sequence, LIST);
         library.sum = blotterfinch_measure(sequence.bytes, sequence.calls * CALL_SIZE, library.buffer, BUFFER);
         plain.sum = plain_measure(sequence.bytes, sequence.calls * CALL_SIZE, plain.buffer, BUFFER);

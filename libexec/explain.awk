@@ -119,7 +119,7 @@ function listing(answer,    i, n, text) {
 
 function taken(answer,    port) {
     port = value(answer, "port")
-    if (first == "reply") { ways["replied"]++; explain(who(port) " replies: " replied(answer, port)) }
+    if (first == "reply") { ways["replied"]++; ways["dropped"] += value(answer, "dropped"); explain(who(port) " replies: " replied(answer, port)) }
     else if (first == "error") { ways["failed"]++; explain(failed(answer, port)) }
     else if (first == "stray") explain("no request waits for this from " who(port) ": " stray_text(port))
     else if (first == "plain") explain("notice from " who(port) ": " notice_text(answer))
@@ -144,7 +144,18 @@ function replied(answer, port,    b2, b3, k, p) {
     if (b2 == "00" && b3 ~ /^1/) return "protocol version " decimal(sides[1]) "." decimal(sides[2]) ", ping data " sides[3]
     if (b2 == "00" && b3 ~ /^0/) return feature_name(asked[k]) (sides[1] == "00" ? " is not there" : " has index " decimal(sides[1]))
     if (b3 ~ /^0/ && feature_at(port, b2) == "1000") return "battery: " battery(sides[1], sides[2], sides[3])
+    if (serial_of(port, b2, b3, asked[k]) && value(answer, "length") == 16 && sides[1] == substr(asked[k], 1, 2)) return told(answer, serial_of(port, b2, b3, asked[k]), sides[2] sides[3] sides[4] sides[5])
     return p " to " asking(port, b2, b3, asked[k])
+}
+
+# A device's serial, beside what the last dump has of it.
+function told(answer, device, serial,    held, text) {
+    held = before(device, "serial")
+    text = who(device) " has serial " serial
+    if (before(device, "paired") == 0) return text ", and is not paired: the serial is not kept"
+    if (held == "-") return text
+    if (held == serial) return text ", as before"
+    return text ", and had " held ": another device of the same model; " dropped(answer)
 }
 
 function failed(answer, port,    code, kind, k) {
@@ -202,11 +213,16 @@ function who(port) {
 function asking(port, b2, b3, p,    text) {
     b2 = toupper(b2)
     b3 = toupper(b3)
-    if (b2 in register) text = register[b2] " " b3
+    if (b2 in register) text = register[b2] " " b3 (serial_of(port, b2, b3, p) ? " (serial of " who(serial_of(port, b2, b3, p)) ")" : "")
     else if (b2 == "00" && b3 ~ /^1/) return "ping (protocol version)"
     else if (b2 == "00" && b3 ~ /^0/) return "index of " feature_name(p)
     else text = "function " decimal("0" substr(b3, 1, 1)) " of feature index " decimal(b2) (feature_at(port, b2) == "" ? "" : " (" name_of[feature_at(port, b2)] ")") ", software id " decimal("0" substr(b3, 2, 1))
     return text (p == "" ? "" : " with " p)
+}
+
+# The device whose serial a request asks for, or 0.
+function serial_of(port, b2, b3, p) {
+    return port == 255 && b2 == "83" && b3 == "B5" && p ~ /^3[0-5]/ ? substr(p, 2, 1) + 1 : 0
 }
 
 function feature_name(p,    id) {
@@ -270,7 +286,7 @@ function movement(answer) {
 function changed(line,    port, i, text, k) {
     port = value(line, "port")
     if (first != "refused" && first != "no call")
-        for (i = 1; i <= 6; i++) {
+        for (i = 1; i <= shown_count; i++) {
             k = shown[i]
             if (value(line, k) != before(port, k)) text = text (text == "" ? "" : ", ") k "=" value(line, k)
         }
@@ -392,13 +408,14 @@ function name_refusals() {
 function name_kinds() {
     kind_count = split("wrote,reply,error,stray,plain,event,radio,paired,unpaired,empty-list,link,other,cancelled,ended,report,moved,dump,refused,no call", kind_order, ",")
     way_count = split("replied,failed,expired,cancelled,dropped,still waiting", way_order, ",")
-    split("paired,wpid,reports,version,features,battery", shown, ",")
+    shown_count = split("paired,wpid,reports,version,features,battery,serial", shown, ",")
     fresh["paired"] = "0"
     fresh["wpid"] = "0000"
     fresh["reports"] = "00000000"
     fresh["version"] = "-"
     fresh["features"] = "0,0,0,0,0"
     fresh["battery"] = "-"
+    fresh["serial"] = "-"
 }
 
 # 8F is HID++ 1.0, of which documents 000 and 004 name three codes; FF is HID++ 2.0, document 000's table.

@@ -4,7 +4,7 @@
 use std::io::{self, BufRead, Write};
 
 /// Every kind of answer that is counted, after the refusal numbers 1 to 14.
-pub const KINDS: [&str; 57] = [
+pub const KINDS: [&str; 59] = [
     "refused without a buffer",
     "refused with a buffer",
     "refused with a buffer of no byte",
@@ -22,6 +22,7 @@ pub const KINDS: [&str; 57] = [
     "ended some on the receiver",
     "reply short",
     "reply long",
+    "reply long, some dropped",
     "stray short",
     "stray long",
     "plain short",
@@ -61,6 +62,7 @@ pub const KINDS: [&str; 57] = [
     "dump of a port, four waiting",
     "dump of a known version",
     "dump of a known battery",
+    "dump of a known serial",
     "no call",
 ];
 
@@ -129,7 +131,8 @@ impl Tally {
             "wrote" => self.wrote(rest),
             "cancelled" => self.kind("cancelled"),
             "ended" => self.ended(rest),
-            "reply" | "stray" | "plain" | "event" => self.sized(name, rest),
+            "reply" => self.reply(rest),
+            "stray" | "plain" | "event" => self.sized(name, rest),
             "error" => self.sized(&format!("error {}", field(rest, "kind")?), rest),
             "radio" => self.radio(rest),
             "unpaired" => self.unpaired(rest),
@@ -202,6 +205,15 @@ impl Tally {
         self.kind(&format!("{name} {size}"))
     }
 
+    /// Only a long reply of the receiver tells a serial, and so drops requests.
+    fn reply(&mut self, rest: &str) -> Option<()> {
+        if drops(rest)? == "none" {
+            return self.sized("reply", rest);
+        }
+        let told = field(rest, "port")? == "255" && field(rest, "length")? == "16";
+        told.then(|| self.kind("reply long, some dropped"))?
+    }
+
     fn radio(&mut self, rest: &str) -> Option<()> {
         self.kind(match field(rest, "length")? {
             "1" => "radio of 1 byte",
@@ -262,6 +274,9 @@ impl Tally {
         }
         if field(line, "battery")? != "-" {
             self.kind("dump of a known battery")?;
+        }
+        if field(line, "serial")? != "-" {
+            self.kind("dump of a known serial")?;
         }
         Some(())
     }

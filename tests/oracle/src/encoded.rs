@@ -130,7 +130,10 @@ fn take_row(taken: Result<Taken, Refusal>) -> Row {
         }) => {
             let mut values = vec![port.byte(), key.byte2, key.byte3, 4, length as u8];
             let kind = match outcome {
-                Outcome::Reply => 1,
+                Outcome::Reply { dropped } => {
+                    values.push(dropped);
+                    1
+                }
                 Outcome::Stray => 2,
                 Outcome::Plain => 3,
                 Outcome::Event => 4,
@@ -197,11 +200,21 @@ pub struct Tally {
     pub malformed: u64,
     pub no_room: u64,
     pub kinds: [u64; KINDS],
+    /// Requests dropped by replies that told another serial.
+    pub dropped: u64,
 }
 
 impl Tally {
     pub fn is_complete(&self) -> bool {
-        self.malformed > 0 && self.no_room > 0 && self.kinds.iter().all(|&count| count > 0)
+        let counts = [self.malformed, self.no_room, self.dropped];
+        counts.iter().chain(&self.kinds).all(|&count| count > 0)
+    }
+
+    fn add(&mut self, row: &[u8]) {
+        self.kinds[usize::from(row[0])] += 1;
+        if row[0] == 1 {
+            self.dropped += u64::from(row[6]);
+        }
     }
 }
 
@@ -222,7 +235,7 @@ pub fn run_all(mut input: impl Read, mut output: impl Write) -> io::Result<Tally
             Err(_) => tally.no_room += 1,
             Ok(length) => {
                 let rows = answers[..length].chunks_exact(ROW);
-                rows.for_each(|row| tally.kinds[usize::from(row[0])] += 1);
+                rows.for_each(|row| tally.add(row));
             }
         }
         output.write_all(&[ran.err().unwrap_or(0)])?;

@@ -1,5 +1,5 @@
-//! Replays scripts, makes random ones and counts the answers' kinds; makes
-//! runs of encoded calls, random ones too.
+//! Replays scripts, makes random ones and counts the answers' kinds and the
+//! serials told; makes runs of encoded calls, random ones too.
 
 use std::ffi::{OsStr, OsString};
 use std::fs::File;
@@ -10,11 +10,13 @@ use oracle::count::Tally;
 use oracle::encoded::run_all;
 use oracle::random::{write_runs, write_script};
 use oracle::script::{replay, Failure};
+use oracle::serials;
 
 const USAGE: &str = "\
 usage: oracle replay [FILE]
        oracle random SEED COUNT
        oracle count FILE
+       oracle serials FILE
        oracle encoded-random SEED COUNT
        oracle encoded FILE";
 
@@ -26,6 +28,7 @@ fn main() -> ExitCode {
         [name, file] if *name == "replay" => replay_file(file),
         [name, seed, count] if *name == "random" => random(seed, count),
         [name, file] if *name == "count" => count(file),
+        [name, file] if *name == "serials" => count_serials(file),
         [name, seed, count] if *name == "encoded-random" => random_runs(seed, count),
         [name, file] if *name == "encoded" => run_file(file),
         _ => Err(USAGE.to_owned()),
@@ -72,8 +75,8 @@ fn run_file(file: &OsStr) -> Result<ExitCode, String> {
     let tally =
         run_all(open(file)?, output()).map_err(|error| failed(&file.to_string_lossy(), &error))?;
     eprintln!(
-        "malformed {}, no room {}, rows by kind {:?}",
-        tally.malformed, tally.no_room, tally.kinds
+        "malformed {}, no room {}, rows by kind {:?}, dropped by replies {}",
+        tally.malformed, tally.no_room, tally.kinds, tally.dropped
     );
     Ok(if tally.is_complete() {
         ExitCode::SUCCESS
@@ -85,6 +88,22 @@ fn run_file(file: &OsStr) -> Result<ExitCode, String> {
 fn count(file: &OsStr) -> Result<ExitCode, String> {
     let tally =
         Tally::read(open(file)?).map_err(|error| failed(&file.to_string_lossy(), &error))?;
+    let mut output = output();
+    tally
+        .print(&mut output)
+        .and_then(|()| output.flush())
+        .map_err(|error| failed("standard output", &error))?;
+    Ok(if tally.is_complete() {
+        ExitCode::SUCCESS
+    } else {
+        ExitCode::FAILURE
+    })
+}
+
+fn count_serials(file: &OsStr) -> Result<ExitCode, String> {
+    let tally = serials::Tally::read(open(file)?).map_err(|failure| match failure {
+        Failure::Input(error) | Failure::Output(error) => failed(&file.to_string_lossy(), &error),
+    })?;
     let mut output = output();
     tally
         .print(&mut output)

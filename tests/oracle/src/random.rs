@@ -71,7 +71,7 @@ impl Generator {
         if self.rng.below(150) == 0 {
             self.focus = [0; 2].map(|_| self.rng.between(1, 6) as u8);
         }
-        if self.plan.is_empty() && self.rng.below(45) == 0 {
+        if self.plan.is_empty() && self.rng.below(40) == 0 {
             self.make_plan();
         }
         let step = if self.rng.chance(85) {

@@ -528,7 +528,7 @@ fn fmt_taken(f: &mut Formatter, taken: &Taken) -> fmt::Result {
             length,
         } => {
             let name = match outcome {
-                Outcome::Reply => "reply",
+                Outcome::Reply { .. } => "reply",
                 Outcome::Stray => "stray",
                 Outcome::Plain => "plain",
                 Outcome::Event => "event",
@@ -537,10 +537,13 @@ fn fmt_taken(f: &mut Formatter, taken: &Taken) -> fmt::Result {
             write!(f, "{name} port={} ", port.byte())?;
             write!(f, "byte2={:02X} byte3={:02X} ", key.byte2, key.byte3)?;
             write!(f, "start=4 length={length}")?;
-            if let Outcome::Error { code, kind } = outcome {
-                write!(f, " code={code:02X} kind={:02X}", kind.byte())?;
+            match outcome {
+                Outcome::Reply { dropped } => write!(f, " dropped={dropped}"),
+                Outcome::Error { code, kind } => {
+                    write!(f, " code={code:02X} kind={:02X}", kind.byte())
+                }
+                Outcome::Stray | Outcome::Plain | Outcome::Event => Ok(()),
             }
-            Ok(())
         }
         Taken::Radio {
             report_type,
@@ -601,7 +604,7 @@ fn fmt_dump(f: &mut Formatter, station: &Station) -> fmt::Result {
 fn fmt_port(f: &mut Formatter, number: PortNumber, port: &Port) -> fmt::Result {
     write!(
         f,
-        "port={} paired={} wpid={:04X} reports={:08X} link={} version={} features={} battery={} places={}",
+        "port={} paired={} wpid={:04X} reports={:08X} link={} version={} features={} battery={} places={} serial={}",
         number.byte(),
         u8::from(port.paired),
         port.wpid,
@@ -611,6 +614,7 @@ fn fmt_port(f: &mut Formatter, number: PortNumber, port: &Port) -> fmt::Result {
         port.features.map(|index| index.0.to_string()).join(","),
         port.battery_text(),
         port.places.map(place_text).join(","),
+        port.serial_text(),
     )
 }
 
@@ -653,7 +657,7 @@ pub fn replay(input: impl BufRead, mut output: impl Write) -> Result<(), Failure
 }
 
 /// Hands on each line of a script; the last may lack its newline.
-fn for_each_line(
+pub fn for_each_line(
     mut input: impl BufRead,
     mut each: impl FnMut(Line) -> io::Result<()>,
 ) -> Result<(), Failure> {

@@ -136,6 +136,12 @@ pub struct Key {
 }
 
 impl Key {
+    /// Reads the receiver's long register B5. Names from source document 004.
+    pub const PAIRING_INFORMATION: Key = Key {
+        byte2: 0x83,
+        byte3: 0xB5,
+    };
+
     pub fn function(self) -> u8 {
         self.byte3 >> 4
     }
@@ -194,6 +200,8 @@ pub struct Port {
     pub features: [FeatureIndex; 5],
     pub battery: Option<Battery>,
     pub places: [Option<Waiting>; 4],
+    /// Which of several devices with one WPID it is.
+    pub serial: Option<u32>,
 }
 
 impl Port {
@@ -227,6 +235,18 @@ impl Port {
     /// Makes the port fresh and returns the number of dropped requests.
     fn reset(&mut self) -> u8 {
         std::mem::take(self).waiting_count()
+    }
+
+    /// Makes the port fresh but for pairing, WPID and bitfield and returns the
+    /// number of dropped requests.
+    fn reset_but_pairing(&mut self) -> u8 {
+        let kept = Port {
+            paired: self.paired,
+            wpid: self.wpid,
+            reports: self.reports,
+            ..Port::default()
+        };
+        std::mem::replace(self, kept).waiting_count()
     }
 }
 
@@ -417,11 +437,17 @@ pub enum Taken {
 
 #[derive(Clone, Copy, Debug, PartialEq, Eq)]
 pub enum Outcome {
-    Reply,
+    /// The dropped requests are those of a device whose serial changed.
+    Reply {
+        dropped: u8,
+    },
     Stray,
     Plain,
     Event,
-    Error { code: u8, kind: ErrorKind },
+    Error {
+        code: u8,
+        kind: ErrorKind,
+    },
 }
 
 /// Which of the two error reports ended a request.
@@ -490,13 +516,40 @@ impl Station {
 
     fn take_hidpp(&mut self, reading: &Reading, parameters: &[u8]) -> Result<Taken, Refusal> {
         let port = PortNumber::device_or_receiver(reading.device)?;
-        let (outcome, key) = self.port_mut(port).take_hidpp(reading.key(), parameters);
+        let told = self.told_serial(port, reading, parameters);
+        let (mut outcome, key) = self.port_mut(port).take_hidpp(reading.key(), parameters);
+        if let Some((device, serial)) = told {
+            outcome = Outcome::Reply {
+                dropped: self.port_mut(device).record_serial(serial),
+            };
+        }
         Ok(Taken::Hidpp {
             outcome,
             port,
             key,
             length: parameters.len(),
         })
+    }
+
+    /// The device and the serial that a long reply of the receiver tells,
+    /// where the request that it ends asked for that device.
+    fn told_serial(
+        &self,
+        port: PortNumber,
+        reading: &Reading,
+        parameters: &[u8],
+    ) -> Option<(PortNumber, u32)> {
+        let from_receiver = port == PortNumber::RECEIVER && reading.id == ReportId::HidppLong;
+        if !from_receiver || reading.key() != Key::PAIRING_INFORMATION {
+            return None;
+        }
+        let mut waiting = self.port(port).waiting();
+        let request = waiting.find(|waiting| waiting.key == reading.key())?;
+        let device = asked_serial(request.parameters[0])?;
+        let &[first, a, b, c, d, ..] = parameters else {
+            return None;
+        };
+        (first == request.parameters[0]).then_some((device, u32::from_be_bytes([a, b, c, d])))
     }
 
     fn take_dj(&mut self, reading: &Reading, parameters: &[u8]) -> Result<Taken, Refusal> {
@@ -522,6 +575,15 @@ impl Station {
     }
 }
 
+/// The first parameter that asks for the serial of device 1.
+pub const FIRST_SERIAL: u8 = 0x30;
+
+/// The device whose serial a request with this first parameter asks for.
+pub fn asked_serial(parameter: u8) -> Option<PortNumber> {
+    let before = parameter.checked_sub(FIRST_SERIAL)?;
+    PortNumber::device(before.checked_add(1)?).ok()
+}
+
 /// 01, "Taking a HID++ report".
 impl Port {
     /// The four steps in their order, with the key that the answer carries.
@@ -531,7 +593,7 @@ impl Port {
         }
         if let Some(request) = self.end(key) {
             self.record_reply(&request, parameters);
-            return (Outcome::Reply, key);
+            return (Outcome::Reply { dropped: 0 }, key);
         }
         let outcome = match key.byte2 {
             0x00..=0x3F => self.take_unrequested(key, parameters),
@@ -611,6 +673,22 @@ impl Port {
                 *held = index;
             }
         }
+    }
+
+    /// 02, Ask 1: a paired device's serial, which makes it fresh where another
+    /// one was known. Returns the number of dropped requests.
+    fn record_serial(&mut self, serial: u32) -> u8 {
+        if !self.paired {
+            return 0;
+        }
+        let is_another = self.serial.is_some_and(|known| known != serial);
+        let dropped = if is_another {
+            self.reset_but_pairing()
+        } else {
+            0
+        };
+        self.serial = Some(serial);
+        dropped
     }
 
     fn record_battery(&mut self, parameters: &[u8]) {
@@ -934,6 +1012,13 @@ impl Port {
     pub fn version_text(&self) -> String {
         match self.version {
             Some(Version { major, minor }) => format!("{major}.{minor}"),
+            None => "-".to_owned(),
+        }
+    }
+
+    pub fn serial_text(&self) -> String {
+        match self.serial {
+            Some(serial) => format!("{serial:08X}"),
             None => "-".to_owned(),
         }
     }

@@ -68,14 +68,28 @@ fn count_fails_where_something_never_occurs() {
 }
 
 #[test]
+fn serials_fails_where_something_never_occurs() {
+    let script = oracle(&["random", "5", "50000"], b"").stdout;
+    let path = file("told.script", &script);
+    let output = oracle(&["serials", path.to_str().unwrap()], b"");
+    assert!(output.status.success());
+    let path = file("untold.script", b"tick\n");
+    let output = oracle(&["serials", path.to_str().unwrap()], b"");
+    assert!(!output.status.success());
+    let first = b"        0  serial became known; by device: 0 0 0 0 0 0\n";
+    assert!(output.stdout.starts_with(first));
+}
+
+#[test]
 fn strange_arguments_are_refused() {
-    let lines: [&[&str]; 6] = [
+    let lines: [&[&str]; 7] = [
         &[],
         &["play"],
         &["replay", "a", "b"],
         &["random", "1"],
         &["random", "x", "1"],
         &["count"],
+        &["serials"],
     ];
     for arguments in lines {
         let output = oracle(arguments, b"");

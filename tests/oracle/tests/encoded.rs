@@ -50,6 +50,35 @@ fn pairing() {
     assert_eq!(answers, [8, 2, 1, 0x10, 0x20, 0x0E, 1, 2, 3, 0]);
 }
 
+/// 02, Ask 1: the row of a reply has the number of dropped requests.
+#[test]
+fn another_serial() {
+    let pair = block(0, [0; 3], &{
+        let mut report = [0; 15];
+        report[..7].copy_from_slice(&[0x20, 2, 0x41, 0, 0x10, 0x20, 0x0E]);
+        report
+    });
+    let request = |arguments, parameters: &[u8]| Block {
+        ticks: 10,
+        lent: 7,
+        ..block(1, arguments, parameters)
+    };
+    let told = |last: u8| {
+        let mut report = [0; 20];
+        report[..9].copy_from_slice(&[0x11, 0xFF, 0x83, 0xB5, 0x31, 1, 2, 3, last]);
+        block(0, [0; 3], &report)
+    };
+    let ask = request([255, 0x83, 0xB5], &[0x31, 0, 0]);
+    let waiting = request([2, 0x05, 0x01], &[0; 3]);
+    let blocks = [pair, ask.clone(), told(4), waiting, ask, told(5)];
+    let mut answers = [0; 6 * ROW];
+    let encoded = encode(&blocks);
+    assert_eq!(run(&encoded, &mut [0; 21], &mut answers), Ok(6 * ROW));
+    let rows: Vec<&[u8]> = answers.chunks(ROW).collect();
+    assert_eq!(rows[2], [1, 255, 0x83, 0xB5, 4, 16, 0, 0, 0, 0]);
+    assert_eq!(rows[5], [1, 255, 0x83, 0xB5, 4, 16, 1, 0, 0, 0]);
+}
+
 #[test]
 fn nothing_is_no_call() {
     assert_eq!(run(&[], &mut [], &mut []), Ok(0));

@@ -59,7 +59,7 @@ fn c_ping_and_its_reply() {
     let mut station = Station::default();
     assert_eq!(ping_2(&mut station), [0x10, 2, 0, 0x11, 0, 0, 0x5A]);
     let answer = station.take(&[0x10, 2, 0, 0x11, 2, 0, 0x5A]);
-    assert_eq!(answer, hidpp(Outcome::Reply, 2, PING));
+    assert_eq!(answer, hidpp(Outcome::Reply { dropped: 0 }, 2, PING));
     let version = Version { major: 2, minor: 0 };
     assert_eq!(station.port(device(2)).version, Some(version));
     assert_eq!(station.port(device(2)).waiting_count(), 0);

@@ -7,7 +7,8 @@ use std::collections::BTreeSet;
 use oracle::count::Tally;
 use oracle::random::{write_script, Generator};
 use oracle::script::{make, parse, Answer, Call, Line, LENT};
-use oracle::station::{PortNumber, Station};
+use oracle::serials;
+use oracle::station::{asked_serial, Outcome, PortNumber, Station, Taken};
 
 fn script(seed: u64, count: u64) -> Vec<u8> {
     let mut script = Vec::new();
@@ -70,6 +71,16 @@ fn every_kind_of_answer_occurs() {
     }
 }
 
+/// Of every device, in every way, and nearly in every way.
+#[test]
+fn serials_are_told() {
+    for seed in 1..=5 {
+        let tally = serials::Tally::read(&script(seed, 50_000)[..]).expect("memory can be read");
+        assert!(tally.is_complete(), "{tally:?}");
+    }
+    assert!(!serials::Tally::default().is_complete());
+}
+
 #[test]
 fn a_missing_kind_and_a_strange_line_are_noticed() {
     assert!(!Tally::default().is_complete());
@@ -79,6 +90,10 @@ fn a_missing_kind_and_a_strange_line_are_noticed() {
         "refused 0",
         "wrote 8: 00",
         "reply",
+        "reply port=2 byte2=00 byte3=11 start=4 length=3",
+        "reply port=255 byte2=83 byte3=B5 start=4 length=3 dropped=1",
+        "reply port=2 byte2=83 byte3=B5 start=4 length=16 dropped=1",
+        "reply port=255 byte2=83 byte3=B5 start=4 length=16 dropped=5",
         "Moved",
     ] {
         let mut tally = Tally::default();
@@ -158,7 +173,8 @@ fn writers_keep_the_bytes_around_the_frame() {
     }
 }
 
-/// Striking out the calls for other ports leaves a port's record and answers.
+/// Striking out the calls for other devices leaves a port's record and
+/// answers. The calls for the receiver stay in every device's sequence.
 #[test]
 fn ports_are_independent() {
     let mut whole = Station::default();
@@ -170,11 +186,87 @@ fn ports_are_independent() {
             if call == Call::Tick {
                 assert_eq!(ended(&make(station, &call), slot), ended(&answer, slot));
             } else if named_port(&call) == Some(number.byte()) {
-                assert_eq!(make(station, &call), answer, "{call:?}");
+                let own = make(station, &call);
+                assert_eq!(
+                    without_drops(own),
+                    without_drops(answer.clone()),
+                    "{call:?}"
+                );
+            } else if named_port(&call) == Some(PortNumber::RECEIVER.byte()) {
+                let beside = make(station, &call);
+                let [beside, full] = [&beside, &answer];
+                assert_eq!(drops(number, &call, beside), drops(number, &call, full));
+                assert_eq!(lent(beside), lent(full), "{call:?}");
             }
             assert_eq!(station.port(number), whole.port(number), "{call:?}");
         }
     }
+}
+
+/// A device's own replies drop nothing, so that this changes those of the
+/// receiver alone.
+fn without_drops(mut answer: Answer) -> Answer {
+    if let Answer::Taken(Taken::Hidpp {
+        outcome: Outcome::Reply { dropped },
+        port: PortNumber::RECEIVER,
+        ..
+    }) = &mut answer
+    {
+        *dropped = 0;
+    }
+    answer
+}
+
+/// The drops that a call for the receiver answers for this device, which the
+/// report's own first parameter names.
+fn drops(device: PortNumber, call: &Call, answer: &Answer) -> u8 {
+    match (call, answer) {
+        (
+            Call::Take(report),
+            Answer::Taken(Taken::Hidpp {
+                outcome: Outcome::Reply { dropped },
+                ..
+            }),
+        ) if asked_serial(report[4]) == Some(device) => *dropped,
+        _ => 0,
+    }
+}
+
+fn lent(answer: &Answer) -> Option<&Vec<u8>> {
+    match answer {
+        Answer::Written(_, buffer) => Some(buffer),
+        _ => None,
+    }
+}
+
+/// Two orders in which each device's calls, the ticks and all calls for the
+/// receiver keep one sequence end in one station.
+#[test]
+fn orders_of_devices_do_not_matter() {
+    let (mut one, mut other) = (Station::default(), Station::default());
+    let mut held: [Vec<Call>; 6] = Default::default();
+    for call in calls(15, 40_000) {
+        make(&mut one, &call);
+        match named_port(&call) {
+            Some(port @ 1..=6) => held[usize::from(port) - 1].push(call),
+            Some(255) => catch_up(&mut other, &mut held, &call),
+            _ if call == Call::Tick => catch_up(&mut other, &mut held, &call),
+            _ => (),
+        }
+    }
+    catch_up(&mut other, &mut held, &Call::Dump);
+    assert_eq!(one, other);
+}
+
+/// Makes the calls that were held back, the highest device's first, and then
+/// this one.
+fn catch_up(station: &mut Station, held: &mut [Vec<Call>; 6], call: &Call) {
+    for calls in held.iter_mut().rev() {
+        calls.drain(..).for_each(|call| {
+            make(station, &call);
+        });
+    }
+    make(station, call);
 }
 
 fn ended(answer: &Answer, slot: usize) -> u8 {
@@ -187,7 +279,10 @@ fn ended(answer: &Answer, slot: usize) -> u8 {
 fn named_port(call: &Call) -> Option<u8> {
     match call {
         Call::Take(report) => report.get(1).copied(),
-        Call::Request { port, .. } | Call::Cancel { port, .. } => Some(*port),
+        Call::Request { port, .. } | Call::Cancel { port, .. } | Call::Led { port, .. } => {
+            Some(*port)
+        }
+        Call::Switch { .. } | Call::GetPaired(_) => Some(PortNumber::RECEIVER.byte()),
         _ => None,
     }
 }

@@ -94,7 +94,7 @@ fn error_ff_fits_only_feature_requests() {
         last(&error),
         "stray port=255 byte2=FF byte3=81 start=4 length=3"
     );
-    assert!(held(&error, 255).ends_with("places=81:F1:00:00:00:9,-,-,-"));
+    assert!(held(&error, 255).ends_with("places=81:F1:00:00:00:9,-,-,- serial=-"));
     let feature = "request 2 05 11 9 0 7 00 00 00\ntake 10 02 FF 05 11 09 00\n";
     let answer = "error port=2 byte2=05 byte3=11 start=4 length=3 code=09 kind=FF";
     assert_eq!(last(feature), answer);
@@ -133,7 +133,7 @@ fn long_reports_serve_short_requests() {
     let script = format!("request 2 00 11 9 0 7 00 00 5A\ntake 11 02 00 11 04 02 5A {zeros}");
     assert_eq!(
         last(&script),
-        "reply port=2 byte2=00 byte3=11 start=4 length=16"
+        "reply port=2 byte2=00 byte3=11 start=4 length=16 dropped=0"
     );
     assert!(held(&script, 2).contains("version=4.2 "));
 }
@@ -232,7 +232,7 @@ fn same_wpid_replaces_the_bitfield_alone() {
         "paired port=2 more=1 wpid=2010 reports=80000002 dropped=0"
     );
     let kept = "port=2 paired=1 wpid=2010 reports=80000002 link=up version=2.5 \
-                features=0,0,0,0,0 battery=- places=05:01:00:00:00:9,-,-,-";
+                features=0,0,0,0,0 battery=- places=05:01:00:00:00:9,-,-,- serial=-";
     assert_eq!(held(&again, 2), kept);
 }
 
@@ -245,7 +245,7 @@ fn other_wpid_makes_the_port_fresh() {
         "paired port=2 more=0 wpid=1020 reports=00000002 dropped=1"
     );
     let fresh = "port=2 paired=1 wpid=1020 reports=00000002 link=down version=- \
-                 features=0,0,0,0,0 battery=- places=-,-,-,-";
+                 features=0,0,0,0,0 battery=- places=-,-,-,- serial=-";
     assert_eq!(held(&other, 2), fresh);
 }
 
@@ -373,7 +373,7 @@ fn places_are_filled_from_the_lowest() {
     let three = "request 2 05 01 9 0 7 00 00 00\nrequest 2 05 02 9 0 7 00 00 00\n\
                  request 2 05 03 9 0 7 00 00 00\n";
     let script = format!("{three}cancel 2 05 02\nrequest 2 05 04 8 0 7 01 02 03\n");
-    let places = "places=05:01:00:00:00:9,05:04:01:02:03:8,05:03:00:00:00:9,-";
+    let places = "places=05:01:00:00:00:9,05:04:01:02:03:8,05:03:00:00:00:9,- serial=-";
     assert!(held(&script, 2).ends_with(places));
 }
 
@@ -385,7 +385,7 @@ fn ticks_end_at_0() {
         answers(script)[3..],
         ["ended 0 0 0 0 0 0 1", "ended 0 1 0 0 0 0 0"]
     );
-    assert!(held(script, 2).ends_with("places=05:01:00:00:00:253,-,-,-"));
+    assert!(held(script, 2).ends_with("places=05:01:00:00:00:253,-,-,- serial=-"));
 }
 
 #[test]

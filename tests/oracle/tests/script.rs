@@ -249,7 +249,7 @@ fn example_of_the_replay_page() {
     assert_eq!(answers[0], "wrote 7: EE 10 02 00 11 00 00 5A EE");
     assert_eq!(
         answers[1],
-        "reply port=2 byte2=00 byte3=11 start=4 length=3"
+        "reply port=2 byte2=00 byte3=11 start=4 length=3 dropped=0"
     );
     assert!(answers[2].starts_with("wrote 47: 70 6F 72 74 "));
     assert!(answers[2].ends_with(&(" 0A".to_owned() + &" EE".repeat(17))));

@@ -3,7 +3,7 @@
 use super::writers::Draft;
 use super::Generator;
 use crate::script::{Call, Lent};
-use crate::station::{dj, Key, BATTERY_LEVEL_STATUS, WIRELESS_DEVICE_STATUS};
+use crate::station::{dj, Key, PortNumber, BATTERY_LEVEL_STATUS, WIRELESS_DEVICE_STATUS};
 
 /// One call of a plan. It is made when its turn comes, for the station as it
 /// stands then.
@@ -15,6 +15,10 @@ pub enum Step {
     GetFeature(u8, u16),
     /// A request to the index that the port holds for the battery.
     AskBattery(u8),
+    /// A request for the device's serial, or nearly that.
+    AskSerial(u8),
+    /// A reply that tells the device's serial, or nearly that.
+    TellSerial(u8),
     /// A reply to the youngest request of the port.
     Reply(u8),
     Event(u8),
@@ -28,10 +32,11 @@ pub enum Step {
 
 impl Generator {
     pub(super) fn make_plan(&mut self) {
-        let mut steps = match self.rng.below(8) {
+        let mut steps = match self.rng.below(13) {
             0 => self.clearing(),
             1..=3 => self.filling(),
-            _ => self.finding(),
+            4..=7 => self.finding(),
+            _ => self.telling(),
         };
         steps.reverse();
         self.plan = steps;
@@ -92,6 +97,33 @@ impl Generator {
         steps
     }
 
+    /// The serial of a device several times, while requests wait there.
+    fn telling(&mut self) -> Vec<Step> {
+        let device = self.rng.between(1, 6) as u8;
+        let mut steps = Vec::new();
+        let paired = self.port(device).is_some_and(|port| port.paired);
+        if self.rng.chance(if paired { 15 } else { 90 }) {
+            steps.push(Step::Pair(device));
+        }
+        for _ in 0..self.rng.between(3, 6) {
+            let requests = self.rng.pick(&[0, 0, 0, 1, 2, 4]);
+            steps.extend(vec![Step::Request(device); requests]);
+            steps.push(Step::AskSerial(device));
+            match self.rng.below(16) {
+                0 => steps.extend([Step::Unpair(device), Step::Pair(device)]),
+                1 => steps.push(Step::Unpair(device)),
+                2 => steps.push(Step::Pair(device)),
+                3 => steps.push(Step::Tick),
+                _ => (),
+            }
+            steps.push(Step::TellSerial(device));
+            if self.rng.chance(40) {
+                steps.push(Step::Dump);
+            }
+        }
+        steps
+    }
+
     pub(super) fn planned(&mut self, step: Step) -> Call {
         match step {
             Step::Request(port) => {
@@ -101,6 +133,8 @@ impl Generator {
             Step::Ping(port) => self.root_request(port, 1, [0, 0]),
             Step::GetFeature(port, feature) => self.root_request(port, 0, feature.to_be_bytes()),
             Step::AskBattery(port) => self.ask_battery(port),
+            Step::AskSerial(device) => self.ask_serial(device),
+            Step::TellSerial(device) => Call::Take(self.tell_serial(device)),
             Step::Reply(port) => Call::Take(self.reply_on(port)),
             Step::Event(port) => Call::Take(self.event_on(port)),
             Step::Pair(port) => Call::Take(self.paired(port)),
@@ -126,11 +160,30 @@ impl Generator {
         self.planned_request(port, byte2, function, &[1])
     }
 
+    /// Now and then on another port, with another sub id or for another
+    /// device.
+    fn ask_serial(&mut self, device: u8) -> Call {
+        let mut port = PortNumber::RECEIVER.byte();
+        let mut key = Key::PAIRING_INFORMATION;
+        match self.rng.below(20) {
+            0 => port = device,
+            1 => key.byte2 = 0x82,
+            2 => key.byte2 = 0x81,
+            _ => (),
+        }
+        let parameter = self.serial_parameter(device);
+        self.request_of(port, key, &[parameter])
+    }
+
     fn planned_request(&mut self, port: u8, byte2: u8, function: u8, start: &[u8]) -> Call {
         let key = Key {
             byte2,
             byte3: function * 16 + self.rng.between(1, 15) as u8,
         };
+        self.request_of(port, key, start)
+    }
+
+    fn request_of(&mut self, port: u8, key: Key, start: &[u8]) -> Call {
         fitting(Draft {
             port,
             key,

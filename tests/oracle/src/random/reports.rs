@@ -2,7 +2,8 @@
 
 use super::Generator;
 use crate::station::{
-    dj, Key, PortNumber, ReportId, Waiting, BATTERY_LEVEL_STATUS, WIRELESS_DEVICE_STATUS,
+    asked_serial, dj, Key, PortNumber, ReportId, Waiting, BATTERY_LEVEL_STATUS, FIRST_SERIAL,
+    WIRELESS_DEVICE_STATUS,
 };
 
 impl Generator {
@@ -84,9 +85,69 @@ impl Generator {
                 waiting.parameters[2],
             ],
             (byte2, _) if byte2 == battery => self.battery(),
+            (0x80.., _) if waiting.key.byte3 == Key::PAIRING_INFORMATION.byte3 => {
+                self.pairing_information(waiting.parameters[0])
+            }
             _ => vec![],
         };
         self.hidpp(port, waiting.key, &parameters)
+    }
+
+    /// A reply of the receiver that tells a device's serial. Now and then it
+    /// is short, for another parameter, of another port or sub id.
+    pub(super) fn tell_serial(&mut self, device: u8) -> Vec<u8> {
+        let mut id = ReportId::HidppLong;
+        let mut port = PortNumber::RECEIVER.byte();
+        let mut key = Key::PAIRING_INFORMATION;
+        let asked = match self.asked_parameter() {
+            Some(parameter) if self.rng.chance(40) => parameter,
+            _ => FIRST_SERIAL - 1 + device,
+        };
+        let mut parameters = self.pairing_information(asked);
+        match self.rng.below(20) {
+            0 => id = ReportId::HidppShort,
+            1 => parameters[0] = self.serial_parameter(device),
+            2 => port = device,
+            3 => key.byte2 = 0x82,
+            // An error, whose offsets 3 to 5 name the request and the code.
+            4 => {
+                let named = key;
+                key = Key {
+                    byte2: 0x8F,
+                    byte3: named.byte2,
+                };
+                parameters = vec![named.byte3, 3];
+            }
+            _ => (),
+        }
+        let start = [&[port, key.byte2, key.byte3], &parameters[..]].concat();
+        self.filled(id, &start)
+    }
+
+    /// The first parameter of the request for register B5 that waits.
+    fn asked_parameter(&self) -> Option<u8> {
+        let mut waiting = self.station.port(PortNumber::RECEIVER).waiting();
+        let request = waiting.find(|waiting| waiting.key == Key::PAIRING_INFORMATION)?;
+        Some(request.parameters[0])
+    }
+
+    /// The first parameter and the serial of the device that it names: often
+    /// the one that is known, or one bit or the order of the bytes apart.
+    fn pairing_information(&mut self, parameter: u8) -> Vec<u8> {
+        let device = asked_serial(parameter).map(PortNumber::byte);
+        let known = device.and_then(|device| self.port(device)?.serial);
+        let serial = match known {
+            Some(serial) if self.rng.chance(30) => serial,
+            Some(serial) if self.rng.chance(40) => {
+                let bit = 1 << self.rng.below(32);
+                self.rng.pick(&[serial ^ bit, serial.swap_bytes()])
+            }
+            _ => {
+                let usual = [0, 1, 0x1234_5678, 0xFB84_1B86, 0x8000_0000, 0xFFFF_FFFF];
+                self.rng.pick(&usual)
+            }
+        };
+        [&[parameter][..], &serial.to_be_bytes()].concat()
     }
 
     /// Often an index that the port already holds for another feature.

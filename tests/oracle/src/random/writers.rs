@@ -3,7 +3,7 @@
 use super::{Generator, DJ_FRAME};
 use crate::script::{Call, Lent, MOST_BYTES, MOST_LENT};
 use crate::station::{
-    Key, PortNumber, BATTERY_LEVEL_STATUS, KNOWN_FEATURES, WIRELESS_DEVICE_STATUS,
+    Key, PortNumber, BATTERY_LEVEL_STATUS, FIRST_SERIAL, KNOWN_FEATURES, WIRELESS_DEVICE_STATUS,
 };
 
 /// A request before it is given an offset to be written at.
@@ -73,12 +73,16 @@ impl Generator {
 
     pub(super) fn fresh_draft(&mut self, port: u8) -> Draft {
         let software_id = self.rng.pick(&[1, 1, 2, 3, 0x0E, 0x0F]);
-        let (byte2, function, start) = self.purpose(port);
+        let (byte2, function, mut start) = self.purpose(port);
         let byte3 = match byte2 {
             0x80..=0x83 => self.rng.pick(&[0x00, 0x02, 0xB5, 0xF1, 0xFF]),
             _ => function * 16 + software_id,
         };
         let key = Key { byte2, byte3 };
+        if byte2 >= 0x80 && byte3 == Key::PAIRING_INFORMATION.byte3 {
+            let device = self.device();
+            start = vec![self.serial_parameter(device)];
+        }
         Draft {
             port,
             key,
@@ -107,6 +111,17 @@ impl Generator {
             },
             13..=15 => (self.rng.pick(&[0x80, 0x81, 0x82, 0x83]), 0, vec![]),
             _ => (self.feature_byte(), self.rng.below(16) as u8, vec![1]),
+        }
+    }
+
+    /// The first parameter that asks for a device's serial, or nearly that.
+    pub(super) fn serial_parameter(&mut self, device: u8) -> u8 {
+        let asked = FIRST_SERIAL - 1 + device;
+        match self.rng.below(16) {
+            0 => self.rng.pick(&[0x2F, 0x2F, 0x36, 0x36, 0x00, 0xFF]),
+            1 => asked ^ self.rng.pick(&[0x10, 0x70, 0x80]),
+            2 => FIRST_SERIAL + self.rng.below(6) as u8,
+            _ => asked,
         }
     }
 
