@@ -2,14 +2,17 @@
 use Prim.Native.Nat.{ℕ, _≤_}
 use mathlib.Core.Path.{_≡_}
 use mathlib.Core.Logic.{_↔_}
-use mathlib.Core.Bool.{true, cond}
-use mathlib.Core.List.{List, _++_, map}
+use mathlib.Core.Bool.{true, false, cond}
+use mathlib.Core.List.{List, _∷_, _++_, map}
 use lib.ListN.{length, getD}
 use denote.Ref.{RefT, now}
-use Rattle.report.specs.Ports.{isPort}
-use Rattle.report.specs.Reading.{readRule}
+use Rattle.report.specs.Ports.{isDevice, isPort}
+use Rattle.report.specs.Sizes.{byte, hidppStart}
+use Rattle.report.specs.Reading.{reportFrom, readRule}
 use Rattle.port.specs.Records.{emptyPlace, requestIn}
+use Rattle.port.specs.Places.{isEmpty}
 use Rattle.port.specs.PortContracts.{takenOf}
+use Rattle.serial.specs.Giving.{Gives}
 use Rattle.station.specs.declared.Station.{Station}
 use Rattle.station.specs.declared.TakeResult.{TakeResult}
 use Rattle.station.specs.StationContracts.{takeOutcome}
@@ -17,17 +20,18 @@ use Rattle.station.specs.Stations.{portCount, positionOf, portFor}
 use Rattle.station.proofs.Station.new.Reads as new-reads
 use Rattle.sequence.specs.Starts.{Start}
 use Rattle.sequence.specs.Steps.{Call, take, readOf, lentOf, ticked, Outcome, takeStep, step, run, returned, labelOf}
-use Rattle.sequence.specs.Targets.{one, all}
+use Rattle.sequence.specs.Targets.{all}
 use Rattle.sequence.specs.Sentence.{sentence}
 use Rattle.sequence.specs.Refused.{isRefusal}
-use Rattle.sequence.specs.Transcripts.{callsOf, transcript}
+use Rattle.sequence.specs.Transcripts.{Entry, callsOf, transcript}
 use Rattle.sequence.specs.Remaining.{view, remaining, comparedOf, compared}
+use Rattle.sequence.specs.Stays.{Stays, ComparesOwn, ComparesReceiver, ComparesDrops}
 use Rattle.sequence.specs.Histories.{Ensured, Made, callOf, History, stationAfter, made}
 use Rattle.reach.specs.Sound.{Reached}
 use Rattle.reach.specs.CallCases.{AllPlaced}
 use Rattle.reach.specs.RefusalTable.{ByTheTable}
 use Rattle.reach.specs.Complete.{Complete}
-use Rattle.reach.specs.Completion.{isReply, isFailure, isHidppRead, Replies, Fails, endsIn}
+use Rattle.reach.specs.Completion.{isReply, isFailure, isHidppRead, Replies, Fails, Swaps, Told, endsIn}
 use Rattle.reach.specs.Ends.{EndsAt, Accounted}
 use Rattle.reach.specs.Fields.{ChangesListed}
 use Rattle.encoded.specs.declared.RunResult.{RunResult}
@@ -53,12 +57,15 @@ pub record Demands : Type 0 where
   pub replies : (st : Station) → Reached st → (bytes : List ℕ) (r : TakeResult) → Ensured st (take bytes) (takeStep bytes (takeOutcome r)) → (isReply (takenOf (r .answer)) ≡ true) ↔ Replies st bytes
   -- An error, exactly when one waits there with the two bytes that the error names, and its kind fits that request
   pub errors : (st : Station) → Reached st → (bytes : List ℕ) (r : TakeResult) → Ensured st (take bytes) (takeStep bytes (takeOutcome r)) → (isFailure (takenOf (r .answer)) ≡ true) ↔ Fails st bytes
-  -- Each ends that one and no other: of every port, the place of the request that it answers is emptied, and every other place stays. DJ reports complete none, and drop all of a port's requests exactly at 0x40, and at 0x41 with another WPID or for a device that is not paired
+  -- Each ends that one and no other: of every port, the place of the request that it answers is emptied, and every other place stays. DJ reports complete none, and drop all of a port's requests exactly at 0x40, and at 0x41 with another WPID or for a device that is not paired. A reply that gives another serial of a device drops all of that device's requests beside the one that it ends
   pub ends : (st : Station) → Reached st → (bytes : List ℕ) (r : TakeResult) → Ensured st (take bytes) (takeStep bytes (takeOutcome r)) → (n : ℕ) → isPort n ≡ true → (place : ℕ) → requestIn (portFor (r .station) n .places) place ≡ cond (endsIn st bytes n place) emptyPlace (requestIn (portFor st n .places) place)
-  -- A HID++ report ends at most one request
-  pub at-most-one : (st : Station) → Reached st → (bytes : List ℕ) → isHidppRead (readRule bytes) ≡ true → (n m i j : ℕ) → isPort n ≡ true → isPort m ≡ true → endsIn st bytes n i ≡ true → endsIn st bytes m j ≡ true → (n ≡ m) × (i ≡ j)
-  -- Records change only as document 01 lists: of every port, by every call, a field that is not listed stays
-  pub changes : (st : Station) → Reached st → (c : Call) (o : Outcome) → Ensured st c o → (n : ℕ) → isPort n ≡ true → ChangesListed n c (o .answer) (portFor st n) (portFor (o .station) n)
+  -- A HID++ report ends at most one request on the port that it names, and on another port none but where it gives another serial of that device
+  pub at-most-one : (st : Station) → Reached st → (bytes : List ℕ) → isHidppRead (readRule bytes) ≡ true → (i j : ℕ) → endsIn st bytes (byte bytes 1) i ≡ true → endsIn st bytes (byte bytes 1) j ≡ true → i ≡ j
+  pub beside : (st : Station) → Reached st → (bytes : List ℕ) → isHidppRead (readRule bytes) ≡ true → (n : ℕ) → isPort n ≡ true → ¬ (byte bytes 1 ≡ n) → (i : ℕ) → (endsIn st bytes n i ≡ true) ↔ (Swaps st bytes n × (isEmpty (requestIn (portFor st n .places) i) ≡ false))
+  -- A long reply on port 255 to the request for register B5 that waits with first parameter 0x30 + device − 1, with the same first parameter (`Gives`), gives that device's serial: where the device is paired, the port has it, and where a different one was known, the port is first made fresh but for pairing, WPID and bitfield; the answer counts the requests dropped so
+  pub serials : (st : Station) → Reached st → (bytes : List ℕ) (r : TakeResult) → Ensured st (take bytes) (takeStep bytes (takeOutcome r)) → isHidppRead (readRule bytes) ≡ true → (n number : ℕ) → Gives (portFor st 255) (reportFrom hidppStart bytes) bytes n number → Told (portFor st n) (portFor (r .station) n) number (takenOf (r .answer))
+  -- Records change only as documents 01 and 02 list: of every port, by every call, a field that is not listed stays
+  pub changes : (st : Station) → Reached st → (c : Call) (o : Outcome) → Ensured st c o → (n : ℕ) → isPort n ≡ true → ChangesListed n c (o .answer) (portFor st 255) (portFor st n) (portFor (o .station) n)
   -- Each count is that of places emptied: what becomes of every place of every port by every call, and the counts for each way in which a request ends
   pub counts : (st : Station) → Reached st → (c : Call) (o : Outcome) → Ensured st c o → (n : ℕ) → isPort n ≡ true → EndsAt n c (o .answer) (portFor st n) (portFor (o .station) n)
   -- Demand 3, for every history: calls that the program made, in any order, with any arguments and any lent bytes, refused ones included; the first on a start, which a new station is, each later one on the station that the call before it handed back or left
@@ -67,17 +74,21 @@ pub record Demands : Type 0 where
   -- Every answer and the lent bytes after every call are those that the rules give, and so is the station at the end
   pub every-answer : (st : Station) (ms : List Made) → History st ms → made st ms ≡ transcript st (map callOf ms)
   pub final-station : (st : Station) (ms : List Made) → History st ms → stationAfter st ms ≡ run st (map callOf ms)
-  -- For each port, strike out every call for another port or for none, and keep the ticks: which port a call is for is what document 01 says of its answer
+  -- For each port, strike out every call for another port or for none, and keep the ticks and every call for 255: which port a call is for is what document 01 says of its answer
   pub struck : (st : Station) (c : Call) (o : Outcome) → Ensured st c o → labelOf st c ≡ sentence c (o .answer)
+  pub left-in : (n : ℕ) (e : Entry) (es : List Entry) → Stays n (e .label) → remaining n (e ∷ es) ≡ e ∷ remaining n es
+  pub struck-out : (n : ℕ) (e : Entry) (es : List Entry) → ¬ Stays n (e .label) → remaining n (e ∷ es) ≡ remaining n es
   -- What remains, run from the same start: at its end the port holds exactly what it holds after the full run
   pub holds : (n : ℕ) → isPort n ≡ true → (st : Station) → Start st → (ms ns : List Made) → History st ms → History st ns → map callOf ns ≡ callsOf (remaining n (made st ms)) → view n (stationAfter st ms) ≡ view n (stationAfter st ns)
-  -- Each call that remains gives the same answer and leaves the same lent bytes; of a tick's answer, that port's count is compared
+  -- Each call that remains gives the same answer and leaves the same lent bytes; of a tick's answer, that port's count is compared, and of a call for 255, where a device is compared, that device's drop count; where 255 is compared, the drop count is left out
   pub returns : (n : ℕ) → isPort n ≡ true → (st : Station) → Start st → (ms ns : List Made) → History st ms → History st ns → map callOf ns ≡ callsOf (remaining n (made st ms)) → compared n (remaining n (made st ms)) ≡ compared n (made st ns)
-  -- What is compared: of a call for one port its answer and all lent bytes, of a tick that port's count
-  pub compares-all : (n number : ℕ) (o q : Outcome) → comparedOf n (one number) (returned o) ≡ comparedOf n (one number) (returned q) → (o .answer ≡ q .answer) × ((o .read ≡ q .read) × (o .lent ≡ q .lent))
+  -- What is compared: of a device's own call its answer and all lent bytes, of 255's all but the drop count, of a call for 255 for a device its drop count and all lent bytes, of a tick that port's count
+  pub compares-own : ComparesOwn
+  pub compares-receiver : ComparesReceiver
+  pub compares-drops : ComparesDrops
   pub compares-count : (n : ℕ) (o q : Outcome) (xs ys : List ℕ) → o .answer ≡ ticked xs → q .answer ≡ ticked ys → comparedOf n all (returned o) ≡ comparedOf n all (returned q) → getD xs (positionOf n) 0 ≡ getD ys (positionOf n) 0
-  -- So any two orders that keep each port's own calls and the ticks in sequence end in the same station
-  pub orders : (st : Station) → Start st → (ms ns : List Made) → History st ms → History st ns → ((n : ℕ) → isPort n ≡ true → callsOf (remaining n (made st ms)) ≡ callsOf (remaining n (made st ns))) → stationAfter st ms ≡ stationAfter st ns
+  -- So any two orders that keep, for each device, its own calls, the ticks and the calls for 255 in one sequence end in the same station
+  pub orders : (st : Station) → Start st → (ms ns : List Made) → History st ms → History st ns → ((n : ℕ) → isDevice n ≡ true → callsOf (remaining n (made st ms)) ≡ callsOf (remaining n (made st ns))) → stationAfter st ms ≡ stationAfter st ns
   -- A history may be cut anywhere: its second part is a history from where the first one ends
   pub cut : (st : Station) (ms ns : List Made) → History st (ms ++ ns) → History st ms × History (stationAfter st ms) ns
   -- Over every history and for each port: requests accepted are those answered by reply, by error, expired, cancelled, dropped, and those that wait, counted from the answers given

@@ -1,24 +1,30 @@
 -- What a console's author reads off the demands: each field of the statement is used here, in other words, so that none of them can say less.
 use Prim.Native.Nat.{ℕ, _+_, _≤_}
-use mathlib.Core.Path.{_≡_, refl, sym, _∙_, ap}
-use mathlib.Core.Bool.{Bool, true, false, cond, _&&_}
+use mathlib.Core.Path.{_≡_, refl, sym, _∙_, ap, subst}
+use mathlib.Core.Bool.{Bool, true, false, cond, _&&_, _||_, true≢false}
 use mathlib.Core.List.{List, [], _∷_, _++_, map}
+use native.Mathlib.Omega.{arith}
 use lib.ListN.{length, getD}
 use lib.Dec.{eqb}
 use denote.Ref.{RefT, now}
-use Rattle.report.specs.Ports.{isPort}
-use Rattle.report.specs.Sizes.{byte}
+use Rattle.report.specs.Ports.{isDevice, isPort}
+use Rattle.report.specs.Sizes.{byte, hidppStart}
 use Rattle.report.specs.Reading as reading
-use Rattle.report.specs.Reading.{Read, readRule}
+use Rattle.report.specs.Reading.{Read, reportFrom, readRule}
 use Rattle.frame.specs.Writing.{requestFrameRule, switchRule, getPairedRule, ledRule}
 use Rattle.mouse.specs.Movement.{mouseRule}
 use Rattle.frame.specs.declared.Written.{Written}
 use Rattle.frame.specs.FrameContracts.{writtenOf, writtenOutcome}
 use Rattle.port.specs.declared.Port.{Port}
 use Rattle.port.specs.declared.Request.{Request}
-use Rattle.port.specs.Records.{emptyPlace, requestIn}
+use Rattle.port.specs.declared.Serial.{Serial}
+use Rattle.port.specs.declared.Serial.the-variants.{Unknown, Known}
+use Rattle.port.specs.Records.{emptyPlace, requestIn, withSerial}
+use Rattle.port.specs.Places.{isEmpty}
 use Rattle.port.specs.Answers as answers
 use Rattle.port.specs.PortContracts.{takenOf}
+use Rattle.serial.specs.Serials.{SerialResult}
+use Rattle.serial.specs.Giving.{Gives}
 use Rattle.blotterfinch.specs.declared.Report.{Report}
 use Rattle.blotterfinch.specs.declared.Written as c
 use Rattle.blotterfinch.specs.declared.Movement.{Movement}
@@ -38,18 +44,20 @@ use Rattle.station.specs.StationContracts.{takeOutcome, requestOutcome, cancelO
 use Rattle.station.specs.Stations.{portCount, positionOf, portFor}
 use Rattle.station.proofs.Station.new.Reads as new-reads
 use Rattle.sequence.specs.Starts.{Start}
-use Rattle.sequence.specs.Steps.{led, Call, take, request, cancel, tick, write, taken, written, ticked, Outcome, takeStep, requestStep, cancelStep, tickStep, writeStep, step, run, returned, labelOf}
-use Rattle.sequence.specs.Targets.{one, all}
+use Rattle.sequence.specs.Steps.{led, Call, take, request, cancel, tick, write, taken, written, ticked, Outcome, takeStep, requestStep, cancelStep, tickStep, writeStep, step, run, Returned, returned, labelOf}
+use Rattle.sequence.specs.Targets.{Target, none, one, all}
 use Rattle.sequence.specs.Sentence.{sentence}
 use Rattle.sequence.specs.Refused.{isRefusal}
-use Rattle.sequence.specs.Transcripts.{callsOf, transcript}
-use Rattle.sequence.specs.Remaining.{view, remaining, comparedOf, compared}
+use Rattle.sequence.specs.Transcripts.{Entry, callsOf, transcript}
+use Rattle.sequence.specs.Remaining.{view, remaining, takenDrops, comparedOf, compared}
 use Rattle.sequence.specs.Independence.{Alone}
+use Rattle.sequence.specs.Stays.{Stays, ownCall, tickCall, receiverCall, SameButDrops}
 use Rattle.sequence.specs.Histories.{Ensured, Made, callOf, History, stationAfter, made}
 use Rattle.reach.specs.Sound.{Reached}
-use Rattle.reach.specs.CallCases.{AllPlaced, ByCases}
+use Rattle.reach.specs.CallCases.{AllPlaced, ByCases, SerialCase, keepsNone, firstSerial, sameSerial, otherSerial}
+use Rattle.reach.specs.CallCasesLaws.{not-so}
 use Rattle.reach.specs.RefusalTable.{led5, RefusalRow, RefusedWith}
-use Rattle.reach.specs.Completion.{isReply, isFailure, isHidppRead, Replies, Fails, readEnds, endsIn}
+use Rattle.reach.specs.Completion.{isReply, isFailure, isHidppRead, Replies, Fails, readEnds, Swaps, endsIn}
 use Rattle.reach.specs.Ends.{byReply, byError, byExpiry, byCancel, byDrop, endingOf, endedInAll, waitingOn, endedIn, begunIn}
 use Rattle.reach.specs.Fields.{battery}
 use Rattle.encoded.specs.declared.RunResult.{RunResult}
@@ -59,12 +67,34 @@ use Rattle.encoded.specs.EncodedRuns.{rowsSize, EncodedOutcome, ran, ReadsBack}
 use Rattle.encoded.proofs.run_encoded.Reads as run-reads
 use Rattle.demands.specs.Demands.{Demands}
 
--- a report that names another device ends no request here
-other-device : (bytes : List ℕ) (n : ℕ) → eqb (byte bytes 1) n ≡ false → (x : Read) (p : Port) (r : Request) → readEnds x bytes n p r ≡ false
-other-device bytes n e (reading.refused number) p r = refl
-other-device bytes n e (reading.hidpp x) p r = simp e
-other-device bytes n e (reading.dj x) p r = simp e
-other-device bytes n e (reading.emptyList x) p r = refl
+-- a DJ report that names another device ends no request here
+other-device : (w : Port) (bytes : List ℕ) (n : ℕ) → eqb (byte bytes 1) n ≡ false → (x : Read) → isHidppRead x ≡ false → (p : Port) (r : Request) → readEnds w x bytes n p r ≡ false
+other-device w bytes n e (reading.refused number) h p r = refl
+other-device w bytes n e (reading.hidpp x) h p r = absurd (true≢false h)
+other-device w bytes n e (reading.dj x) h p r = simp e
+other-device w bytes n e (reading.emptyList x) h p r = refl
+
+-- a serial that is known is not unknown
+known-so : {known : ℕ} → Unknown ≡ Known known → ⊥
+known-so e = true≢false (ap unknown e)
+  where
+    unknown : Serial → Bool
+    unknown Unknown = true
+    unknown (Known known) = false
+
+-- a call for device 3 does not stay for device 2
+named-3 : Stays 2 (one 3) → ⊥
+named-3 s = go (one 3) s refl
+  where
+    number : Target → ℕ
+    number none = 0
+    number (one n) = n
+    number all = 0
+
+    go : (t : Target) → Stays 2 t → t ≡ one 3 → ⊥
+    go t ownCall q = let z : _≡_ {A = ℕ} 2 3 = ap number q in omega arith
+    go t tickCall q = let z : _≡_ {A = ℕ} 0 3 = ap number q in omega arith
+    go t receiverCall q = let z : _≡_ {A = ℕ} 255 3 = ap number q in omega arith
 
 module _ (d : Demands) where
   -- the station that a call hands back is the rules' next one
@@ -121,26 +151,66 @@ module _ (d : Demands) where
     error-only : isFailure (takenOf (r .answer)) ≡ true → Fails st bytes
     error-only = d .errors st k bytes r e .0
 
-    -- what device 3 sends leaves every request of device 2 as it was
+    -- what device 3 sends leaves every request of device 2 as it was: a HID++ report too, since only port 255 tells a serial
     device-3-for-device-2 : byte bytes 1 ≡ 3 → (place : ℕ) → requestIn (portFor (r .station) 2 .places) place ≡ requestIn (portFor st 2 .places) place
+    unfolding reportFrom
     device-3-for-device-2 q place =
-        d .ends st k bytes r e 2 refl place ∙ ap (λ (b : Bool). cond b emptyPlace (requestIn (portFor st 2 .places) place)) (other-device bytes 2 (ap (λ (n : ℕ). eqb n 2) q) (readRule bytes) (portFor st 2) (requestIn (portFor st 2 .places) place))
+        d .ends st k bytes r e 2 refl place ∙ ap (λ (b : Bool). cond b emptyPlace (requestIn (portFor st 2 .places) place)) (go (isHidppRead (readRule bytes)) refl)
+      where
+        go : (b : Bool) → isHidppRead (readRule bytes) ≡ b → endsIn st bytes 2 place ≡ false
+        go true h =
+            not-so (endsIn st bytes 2 place) (λ z.
+            let s = d .beside st k bytes h 2 refl (λ y. let w : _≡_ {A = ℕ} 3 2 = sym q ∙ y in omega arith) place .0 z .0 in
+            let w : _≡_ {A = ℕ} 3 255 = sym q ∙ s .given .receiver in
+            omega arith)
+        go false h =
+            other-device (portFor st (byte bytes 1)) bytes 2 (ap (λ (n : ℕ). eqb n 2) q) (readRule bytes) h (portFor st 2) (requestIn (portFor st 2 .places) place)
 
-    -- a HID++ report completes one request at most, on one port
-    one-at-most : isHidppRead (readRule bytes) ≡ true → (n m i j : ℕ) → isPort n ≡ true → isPort m ≡ true → endsIn st bytes n i ≡ true → endsIn st bytes m j ≡ true → (n ≡ m) × (i ≡ j)
+    -- a HID++ report completes one request at most on its port
+    one-at-most : isHidppRead (readRule bytes) ≡ true → (i j : ℕ) → endsIn st bytes (byte bytes 1) i ≡ true → endsIn st bytes (byte bytes 1) j ≡ true → i ≡ j
     one-at-most = d .at-most-one st k bytes
+
+    -- another serial of device 2 ends every request that waits there
+    twin-drops : isHidppRead (readRule bytes) ≡ true → ¬ (byte bytes 1 ≡ 2) → Swaps st bytes 2 → (place : ℕ) → isEmpty (requestIn (portFor st 2 .places) place) ≡ false → requestIn (portFor (r .station) 2 .places) place ≡ emptyPlace
+    twin-drops h away s place waits =
+        d .ends st k bytes r e 2 refl place ∙ ap (λ (b : Bool). cond b emptyPlace (requestIn (portFor st 2 .places) place)) (d .beside st k bytes h 2 refl away place .1 (s, waits))
+
+    -- what is told of a paired device is kept, and a first serial leaves its version
+    module _ (h : isHidppRead (readRule bytes) ≡ true) (number : ℕ) (g : Gives (portFor st 255) (reportFrom hidppStart bytes) bytes 2 number) (paired : portFor st 2 .paired ≡ true) where
+      serial-kept : portFor (r .station) 2 .serial ≡ Known number
+      unfolding withSerial
+      serial-kept = let t = d .serials st k bytes r e h 2 number g in ap (λ (p : Port). p .serial) (t .port) ∙ go (t .so)
+        where
+          go : {x : SerialResult} → SerialCase (portFor st 2) number x → x .port .serial ≡ Known number
+          go (keepsNone z) = absurd (true≢false (sym paired ∙ z))
+          go (firstSerial z y) = refl
+          go (sameSerial z y) = y
+          go (otherSerial known z y differs) = refl
+
+      version-kept : portFor st 2 .serial ≡ Unknown → (portFor (r .station) 2 .version ≡ portFor st 2 .version) × (takenDrops (takenOf (r .answer)) ≡ 0)
+      unfolding withSerial
+      version-kept unknown =
+          let t = d .serials st k bytes r e h 2 number g in
+          let z = go (t .so) in
+          (ap (λ (p : Port). p .version) (t .port) ∙ z .0, t .drops ∙ z .1)
+        where
+          go : {x : SerialResult} → SerialCase (portFor st 2) number x → (x .port .version ≡ portFor st 2 .version) × (x .dropped ≡ 0)
+          go (keepsNone z) = (refl, refl)
+          go (firstSerial z y) = (refl, refl)
+          go (sameSerial z y) = (refl, refl)
+          go (otherSerial known z y differs) = absurd (known-so (sym unknown ∙ y))
 
   -- a cancel leaves every battery
   cancel-keeps-batteries : (st : Station) → Reached st → (device byte2 byte3 : ℕ) (r : CancelResult) → Ensured st (cancel device byte2 byte3) (cancelStep (cancelOutcome r)) → (n : ℕ) → isPort n ≡ true → portFor (r .station) n .battery ≡ portFor st n .battery
   cancel-keeps-batteries st k device byte2 byte3 r e n h =
       d .changes st k (cancel device byte2 byte3) (cancelStep (cancelOutcome r)) e n h battery (go (eqb device n))
     where
-      go : (b : Bool) → b && false ≡ false
+      go : (b : Bool) → (b && false) || false ≡ false
       go true = refl
       go false = refl
 
   -- what a tick says of a port is what it ended there: what waited waits or is counted
-  tick-counts : (st : Station) → Reached st → (r : TickResult) → Ensured st tick (tickStep (tickOutcome r)) → (n : ℕ) → isPort n ≡ true → waitingOn (portFor (r .station) n) + endedInAll n (endingOf tick (ticked (r .ended))) ≡ waitingOn (portFor st n) + 0
+  tick-counts : (st : Station) → Reached st → (r : TickResult) → Ensured st tick (tickStep (tickOutcome r)) → (n : ℕ) → isPort n ≡ true → waitingOn (portFor (r .station) n) + endedInAll n (endingOf n tick (ticked (r .ended))) ≡ waitingOn (portFor st n) + 0
   tick-counts st k r e n h = d .counts st k tick (tickStep (tickOutcome r)) e n h .balance
 
   -- the program's new station is where a history begins, and the invariant holds wherever it ends
@@ -166,7 +236,7 @@ module _ (d : Demands) where
     device-2-returns : map callOf ns ≡ callsOf (remaining 2 (made st ms)) → compared 2 (remaining 2 (made st ms)) ≡ compared 2 (made st ns)
     device-2-returns = d .returns 2 refl st begins ms ns k l
 
-    any-order : ((n : ℕ) → isPort n ≡ true → callsOf (remaining n (made st ms)) ≡ callsOf (remaining n (made st ns))) → stationAfter st ms ≡ stationAfter st ns
+    any-order : ((n : ℕ) → isDevice n ≡ true → callsOf (remaining n (made st ms)) ≡ callsOf (remaining n (made st ns))) → stationAfter st ms ≡ stationAfter st ns
     any-order = d .orders st begins ms ns k l
 
     -- every request that device 2 was sent has ended, as an answer said, or waits
@@ -178,9 +248,22 @@ module _ (d : Demands) where
   radio-named st bytes r e kind start size q =
       d .struck st (take bytes) (takeStep bytes (takeOutcome r)) e ∙ ap (λ (a : answers.Answer). sentence (take bytes) (taken a)) q
 
-  -- what is compared of a call for one port is its answer and every lent byte; of a tick the port's count
-  compared-whole : (o q : Outcome) → comparedOf 2 (one 2) (returned o) ≡ comparedOf 2 (one 2) (returned q) → (o .answer ≡ q .answer) × ((o .read ≡ q .read) × (o .lent ≡ q .lent))
-  compared-whole = d .compares-all 2 2
+  -- for device 2 a call for 255 stays and one for device 3 does not; for 255 one for device 2 does not
+  receiver-stays : (e : Entry) (es : List Entry) → e .label ≡ one 255 → remaining 2 (e ∷ es) ≡ e ∷ remaining 2 es
+  receiver-stays e es q = d .left-in 2 e es (subst (Stays 2) (sym q) receiverCall)
+
+  device-3-struck : (e : Entry) (es : List Entry) → e .label ≡ one 3 → remaining 2 (e ∷ es) ≡ remaining 2 es
+  device-3-struck e es q = d .struck-out 2 e es (λ s. named-3 (subst (Stays 2) q s))
+
+  -- what is compared of a device's own call is its answer and every lent byte; of 255's the same but for the drop count; of a call for 255, for a device, its drop count; of a tick the port's count
+  compared-whole : (r q : Returned) → comparedOf 2 (one 2) r ≡ comparedOf 2 (one 2) q → (r .answer ≡ q .answer) × ((r .read ≡ q .read) × (r .lent ≡ q .lent))
+  compared-whole = d .compares-own 2 refl
+
+  compared-receiver : (r q : Returned) → comparedOf 255 (one 255) r ≡ comparedOf 255 (one 255) q → SameButDrops (r .answer) (q .answer) × ((r .read ≡ q .read) × (r .lent ≡ q .lent))
+  compared-receiver = d .compares-receiver
+
+  compared-drops : (r q : Returned) (x y : ℕ) (a b : answers.About) → comparedOf 2 (one 255) r ≡ comparedOf 2 (one 255) q → r .answer ≡ taken (answers.reply x a) → q .answer ≡ taken (answers.reply y b) → byte (r .read) 4 ≡ 0x31 → (x ≡ y) × (r .lent ≡ q .lent)
+  compared-drops r q x y a b e f g h = let c = d .compares-drops 2 refl r q e in (c .0 x y a b f g h, c .1 .1)
 
   compared-count : (o q : Outcome) (xs ys : List ℕ) → o .answer ≡ ticked xs → q .answer ≡ ticked ys → comparedOf 255 all (returned o) ≡ comparedOf 255 all (returned q) → getD xs 6 0 ≡ getD ys 6 0
   unfolding positionOf

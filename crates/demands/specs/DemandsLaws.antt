@@ -12,12 +12,13 @@ use Rattle.station.specs.StationContracts.{takeOutcome}
 use Rattle.station.specs.StationTaking.{takeRule}
 use Rattle.sequence.specs.Starts.{Start, fresh}
 use Rattle.sequence.specs.Steps as steps
-use Rattle.sequence.specs.Steps.{Call, take, Outcome, takeStep, step, run, Returned}
+use Rattle.sequence.specs.Steps.{Call, take, Outcome, takeStep, step, run}
 use Rattle.sequence.specs.Refused.{isRefusal, Unchanged}
 use Rattle.sequence.specs.Sentence.{sentence}
 use Rattle.sequence.specs.SentenceLaws.{by-answer}
 use Rattle.sequence.specs.Transcripts.{Entry, transcript}
-use Rattle.sequence.specs.Remaining.{view, whole, count}
+use Rattle.sequence.specs.Remaining.{view, count}
+use Rattle.sequence.specs.StaysLaws.{left-in, struck-out, compares-own, compares-receiver, compares-drops}
 use Rattle.sequence.specs.Histories.{Ensured, Made, callOf, stationAfter, made}
 use Rattle.sequence.specs.HistoriesLaws as histories
 use Rattle.reach.specs.Sound.{Reached}
@@ -48,9 +49,6 @@ by-step P e h = subst P (sym (histories.met e)) h
 refused-keeps : (st : Station) (c : Call) (o : Outcome) → Ensured st c o → isRefusal (o .answer) ≡ true → Unchanged st c o
 refused-keeps st c o e = by-step (λ o. isRefusal (o .answer) ≡ true → Unchanged st c o) e (complete .refused st c)
 
-same-whole : {r q : Returned} → whole r ≡ whole q → r ≡ q
-same-whole e = cc
-
 same-count : {m n : ℕ} → count m ≡ count n → m ≡ n
 same-count e = cc
 
@@ -76,16 +74,22 @@ demands =
       errors = λ st k bytes r e. taken st k bytes r e .fails;
       ends = λ st k bytes r e. taken st k bytes r e .ends;
       at-most-one = λ st k bytes. complete .completes st k bytes .one;
-      changes = λ st k c o e n h. by-step (λ o. ChangesListed n c (o .answer) (view n st) (view n (o .station))) e (complete .changes st k c n h);
+      beside = λ st k bytes. complete .completes st k bytes .beside;
+      serials = λ st k bytes r e. taken st k bytes r e .told;
+      changes = λ st k c o e n h. by-step (λ o. ChangesListed n c (o .answer) (view 255 st) (view n st) (view n (o .station))) e (complete .changes st k c n h);
       counts = λ st k c o e n h. by-step (λ o. EndsAt n c (o .answer) (view n st) (view n (o .station))) e (complete .ends st k c n h);
       begins = λ r e. subst Start (sym e) fresh;
       reached = λ st begins ms k. subst Reached (sym (histories.history st ms k .station)) (complete .reached st begins (map callOf ms));
       every-answer = λ st ms k. histories.history st ms k .entries;
       final-station = λ st ms k. histories.history st ms k .station;
       struck = λ st c o e. by-answer st c ∙ ap (λ (x : Outcome). sentence c (x .answer)) (sym (histories.met e));
+      left-in = left-in;
+      struck-out = struck-out;
       holds = λ n h st begins ms ns k l e. histories.alone n h st begins ms ns k l e .holds;
       returns = λ n h st begins ms ns k l e. histories.alone n h st begins ms ns k l e .returns;
-      compares-all = λ n number o q e. let h = same-whole e in (ap (λ (t : Returned). t .answer) h, (ap (λ (t : Returned). t .read) h, ap (λ (t : Returned). t .lent) h));
+      compares-own = compares-own;
+      compares-receiver = compares-receiver;
+      compares-drops = compares-drops;
       compares-count = λ n o q xs ys a b e. let h = same-count e in cc (a, b, h);
       orders = histories.orders;
       cut = histories.cut;

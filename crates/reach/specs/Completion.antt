@@ -16,12 +16,13 @@ use Rattle.port.specs.Records.{emptyPlace, requestIn}
 use Rattle.port.specs.Places.{isEmpty, matches}
 use Rattle.port.specs.Answers.{Answer, refused, reply, stray, plain, event, failed, radio, notice}
 use Rattle.hidpp.specs.HidppTaking.{isError}
-use Rattle.serial.specs.Serials.{Given, noSerial, serialOf, givenBy, isAnother}
+use Rattle.serial.specs.Serials.{Given, noSerial, serialOf, givenBy, isAnother, SerialResult}
 use Rattle.serial.specs.Giving.{Gives}
 use Rattle.dj.specs.DjTaking.{wpidOf, isPairedWith}
 use Rattle.station.specs.declared.Station.{Station}
 use Rattle.station.specs.Stations.{portFor}
-use Rattle.reach.specs.CallCases.{Waits}
+use Rattle.sequence.specs.Remaining.{takenDrops}
+use Rattle.reach.specs.CallCases.{Waits, SerialCase}
 
 -- the answer says that a request is completed by a reply, and by an error
 abbrev pub isReply : Answer → Bool
@@ -101,6 +102,13 @@ pub record Swaps (st : Station) (bytes : List ℕ) (n : ℕ) : Type 0 where
   pub before : portFor st n .serial ≡ Known known
   pub differs : ¬ (known ≡ number)
 
+-- at its device's port a serial does what its case says, and the answer has the number of requests that it drops
+pub record Told (p next : Port) (number : ℕ) (answer : Answer) : Type 0 where
+  pub result : SerialResult
+  pub so : SerialCase p number result
+  pub port : next ≡ result .port
+  pub drops : takenDrops answer ≡ result .dropped
+
 -- of taking these bytes on this station: the answer, and the next station
 pub record Completion (st : Station) (bytes : List ℕ) (answer : Answer) (next : Station) : Type 0 where
   -- a reply completes a request exactly then; an error, exactly then
@@ -110,5 +118,7 @@ pub record Completion (st : Station) (bytes : List ℕ) (answer : Answer) (next 
   pub ends : (n : ℕ) → isPort n ≡ true → (place : ℕ) → requestIn (portFor next n .places) place ≡ cond (endsIn st bytes n place) emptyPlace (requestIn (portFor st n .places) place)
   -- a HID++ report ends one at most on the port that it names
   pub one : isHidppRead (readRule bytes) ≡ true → (i j : ℕ) → endsIn st bytes (byte bytes 1) i ≡ true → endsIn st bytes (byte bytes 1) j ≡ true → i ≡ j
+  -- a serial that it gives is told to its device
+  pub told : isHidppRead (readRule bytes) ≡ true → (n number : ℕ) → Gives (portFor st 255) (reportFrom hidppStart bytes) bytes n number → Told (portFor st n) (portFor next n) number answer
   -- on another port it ends all that wait where it gives another serial of that device, and none else
   pub beside : isHidppRead (readRule bytes) ≡ true → (n : ℕ) → isPort n ≡ true → ¬ (byte bytes 1 ≡ n) → (i : ℕ) → (endsIn st bytes n i ≡ true) ↔ (Swaps st bytes n × (isEmpty (requestIn (portFor st n .places) i) ≡ false))

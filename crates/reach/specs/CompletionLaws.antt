@@ -33,15 +33,15 @@ use Rattle.station.specs.StationsLaws.{device-number, position-within}
 use Rattle.station.specs.StationTaking.{storedAt, withDrops, alsoAt, takeBy, takeRule}
 use Rattle.sequence.specs.Readings.{ReadFits}
 use Rattle.sequence.specs.ReadingsLaws.{dj-port, read-fits}
-use Rattle.sequence.specs.Remaining.{view}
+use Rattle.sequence.specs.Remaining.{view, takenDrops}
 use Rattle.sequence.specs.NumbersLaws.{one-number}
 use Rattle.sequence.specs.IndependenceLaws.{stored, elsewhere}
 use Rattle.reach.specs.Sound.{SoundPlaces, Reached}
 use Rattle.reach.specs.SoundLaws.{reply-records, error-records, event-records}
 use Rattle.reach.specs.CallCases.{Waits, Unasked, failedPlace, repliedPlace, IsStray, unnamed, register, reserved, late, IsPlain, notification, major1, IsEvent, software0, HidppCase, givesFailed, givesReply, givesStray, givesPlain, givesEvent, radioUnpaired, radioUndeclared, linkUnpaired, DjCase, djRefused, radioTaken, unpairs, pairedSame, pairedNew, linkSet, otherNotice}
-use Rattle.reach.specs.CallCasesLaws.{not-so, hidpp-case, dj-case}
+use Rattle.reach.specs.CallCasesLaws.{not-so, waits-at, hidpp-case, serial-case, dj-case}
 use Rattle.reach.specs.EndsLaws.{Emptied, hit, miss, emptied-at, fresh-empty}
-use Rattle.reach.specs.Completion.{isReply, isFailure, isHidppRead, isFitting, makesFresh, answersRequest, swaps, readEnds, Swaps, Completion}
+use Rattle.reach.specs.Completion.{isReply, isFailure, isHidppRead, isFitting, makesFresh, answersRequest, swaps, readEnds, Swaps, Told, Completion}
 
 -- at its port: when the answer is a reply, and when an error, and what becomes of each place
 record HidppAt (p : Port) (m : Message) (r : Result) : Type 0 where
@@ -152,6 +152,16 @@ drops-reply dropped (failed a code kind) = (refl, refl)
 drops-reply dropped (radio kind start size) = (refl, refl)
 drops-reply dropped (notice n) = (refl, refl)
 
+reply-drops : (dropped : ℕ) (a : Answer) → isReply a ≡ true → takenDrops (withDrops dropped a) ≡ dropped
+reply-drops dropped (refused number) e = absurd (false≢true e)
+reply-drops dropped (reply before a) e = refl
+reply-drops dropped (stray a) e = absurd (false≢true e)
+reply-drops dropped (plain a) e = absurd (false≢true e)
+reply-drops dropped (event a) e = absurd (false≢true e)
+reply-drops dropped (failed a code kind) e = absurd (false≢true e)
+reply-drops dropped (radio kind start size) e = absurd (false≢true e)
+reply-drops dropped (notice n) e = absurd (false≢true e)
+
 -- the places of a port that is told a serial: another one empties all
 serial-places : (p : Port) (number : ℕ) → SoundPlaces (p .places) → (i : ℕ) → requestIn (serialRule p number .port .places) i ≡ cond ((p .paired && isAnother (p .serial) number) && not (isEmpty (requestIn (p .places) i))) emptyPlace (requestIn (p .places) i)
 unfolding serialRule withSerial withPairing madeFresh
@@ -201,6 +211,7 @@ module _ (st : Station) (k : Reached st) (bytes : List ℕ) where
         fails = (λ q. absurd (false≢true (sym b ∙ q)), λ q. absurd (true≢false (sym (q .0) ∙ e)));
         ends = λ n h i. simp (f n (view n st) (requestIn (view n st .places) i));
         one = λ q. absurd (true≢false (sym q ∙ e));
+        told = λ q. absurd (true≢false (sym q ∙ e));
         beside = λ q. absurd (true≢false (sym q ∙ e));
       }
 
@@ -327,6 +338,22 @@ module _ (st : Station) (k : Reached st) (bytes : List ℕ) where
           ∙ ends-at (byte bytes 1) n (x .port) d port (λ j p r. answered r) (h .place) i
           ∙ ap (λ (b : Bool). cond b emptyPlace (requestIn (view n st .places) i)) (sym (or-false (answersRequest bytes n (requestIn (view n st .places) i))) ∙ by-given (answersRequest bytes n (requestIn (view n st .places) i)) false refl (simp e))
 
+  -- the device whose serial it gives
+  hidpp-told : {x : Result} → isPort (byte bytes 1) ≡ true → HidppAt own message x → (n number : ℕ) → Gives (view 255 st) report bytes n number → Told (view n st) (view n (alsoAt st given (storedAt st (positionOf (byte bytes 1)) x) .station)) number (alsoAt st given (storedAt st (positionOf (byte bytes 1)) x) .answer)
+  unfolding messageOf reportFrom
+  hidpp-told {x} d h n number g =
+      let on : byte bytes 1 ≡ 255 = g .receiver in
+      let here : Gives own report bytes n number = subst (λ (i : ℕ). Gives (view i st) report bytes n number) (sym on) g in
+      let gives : given ≡ serialOf n number = given-exactly own report bytes n number .1 here in
+      let waits : Waits own (byte bytes 2) (byte bytes 3) = waits-at own (places-of (byte bytes 1) .all) (byte bytes 2) (byte bytes 3) (cc (here .byte2, here .byte3, here .waits)) in
+      let replied : isReply (x .answer) ≡ true = h .reply .1 (ap isError (g .byte2), waits) in
+      record {
+        result = serialRule (view n st) number;
+        so = serial-case (view n st) number;
+        port = ap (λ (y : Given). view n (alsoAt st y (storedAt st (positionOf (byte bytes 1)) x) .station)) gives ∙ stored (withPort st (positionOf (byte bytes 1)) (x .port)) (positionOf n) (serialRule (view n st) number .port) (position-within n) (seven-first (x .port));
+        drops = ap (λ (y : Given). takenDrops (alsoAt st y (storedAt st (positionOf (byte bytes 1)) x) .answer)) gives ∙ reply-drops (serialRule (view n st) number .dropped) (x .answer) replied;
+      }
+
   -- its answer, with or without a drop count
   hidpp-answer : (x : Result) (g : Given) → (isReply (alsoAt st g (storedAt st (positionOf (byte bytes 1)) x) .answer) ≡ isReply (x .answer)) × (isFailure (alsoAt st g (storedAt st (positionOf (byte bytes 1)) x) .answer) ≡ isFailure (x .answer))
   hidpp-answer x noSerial = (refl, refl)
@@ -342,6 +369,7 @@ module _ (st : Station) (k : Reached st) (bytes : List ℕ) where
         fails = (λ q. (read, h .failure .0 (sym (a .1) ∙ q)), λ q. a .1 ∙ h .failure .1 (q .1));
         ends = λ n g i. subst (λ (y : Read). requestIn (view n (alsoAt st given (storedAt st (positionOf (byte bytes 1)) x) .station) .places) i ≡ cond (readEnds own y bytes n (view n st) (requestIn (view n st .places) i)) emptyPlace (requestIn (view n st .places) i)) (sym e) (hidpp-places d h given refl n g i);
         one = λ q i j y z. hidpp-one i j (subst (λ (t : Read). readEnds own t bytes (byte bytes 1) own (requestIn (own .places) i) ≡ true) e y) (subst (λ (t : Read). readEnds own t bytes (byte bytes 1) own (requestIn (own .places) j) ≡ true) e z);
+        told = λ q n number g. hidpp-told d h n number g;
         beside = λ q n g differs i. subst (λ (t : Read). (readEnds own t bytes n (view n st) (requestIn (view n st .places) i) ≡ true) ↔ (Swaps st bytes n × (isEmpty (requestIn (view n st .places) i) ≡ false))) (sym e) (hidpp-beside n differs i);
       }
 
@@ -354,6 +382,7 @@ module _ (st : Station) (k : Reached st) (bytes : List ℕ) where
         fails = (λ q. absurd (false≢true (sym (h .failure) ∙ q)), λ q. absurd (true≢false (sym (q .0) ∙ read)));
         ends = λ n g i. subst (λ (y : Read). requestIn (view n (withPort st (positionOf (byte bytes 1)) (x .port)) .places) i ≡ cond (readEnds (view (byte bytes 1) st) y bytes n (view n st) (requestIn (view n st .places) i)) emptyPlace (requestIn (view n st .places) i)) (sym e) (ends-at (byte bytes 1) n (x .port) d g (λ j p r. makesFresh p (byte bytes 2) bytes && not (isEmpty r)) (h .place) i);
         one = λ q. absurd (true≢false (sym q ∙ read));
+        told = λ q. absurd (true≢false (sym q ∙ read));
         beside = λ q. absurd (true≢false (sym q ∙ read));
       }
 

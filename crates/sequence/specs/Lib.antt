@@ -12,6 +12,8 @@ pub mod LocalLaws
 pub mod NumbersLaws
 pub mod Independence
 pub mod IndependenceLaws
+pub mod Stays
+pub mod StaysLaws
 pub mod Histories
 pub mod HistoriesLaws
 pub mod HistoriesExamples
