@@ -327,11 +327,9 @@ fn take_reply(port: Port, m: Message, place: usize) -> PortTaken
     let places = port.places;
     let request = port::request_in(places, place);
     let ended = waiting::end_at(port, place);
+    let about = about(m, m.byte2, m.byte3);
     PortTaken {
-        answer: Taken::Reply {
-            about: about(m, m.byte2, m.byte3),
-            dropped: 0,
-        },
+        answer: Taken::Reply { about, dropped: 0 },
         port: after_reply(ended, m, request),
     }
 }

@@ -8,6 +8,7 @@ use borrow.Author.Tests.{eqb-true, not-true}
 use Rattle.report.specs.ChoicesLaws.{both}
 use Rattle.frame.specs.Forbidden.{isAskable}
 use Rattle.port.specs.declared.Request.{Request}
+use Rattle.port.specs.declared.Serial.the-variants.{Unknown}
 use Rattle.port.specs.Records.{emptyPlace, requestIn, featureAt}
 use Rattle.port.specs.Places.{isEmpty, matches}
 use Rattle.station.specs.declared.Station.{Station}
@@ -19,6 +20,11 @@ module _ (st : Station) (k : Reached st) where
   receiver-unpaired : portFor st 255 .paired ≡ false
   unfolding positionOf
   receiver-unpaired = k .each 6 (lit< tt) .receiver refl
+
+  -- no serial is known of a device that is not paired
+  no-serial-unpaired : portFor st 2 .paired ≡ false → portFor st 2 .serial ≡ Unknown
+  unfolding positionOf
+  no-serial-unpaired = k .each 1 (lit< tt) .unpaired
 
   module _ (position : ℕ) (h : position < 7) where
     -- each port has its four places and its five indexes

@@ -63,12 +63,11 @@ fn is_asked_with(port: Port, first: u8) -> bool
 fn serial_in(bytes: &[u8]) -> u32
     ensures { λ r. ⌜ r ≡ serialIn (now (bytes .entry)) ⌝ }
 {
-    report::join4(
-        hidpp::parameter(bytes, 4),
-        hidpp::parameter(bytes, 3),
-        hidpp::parameter(bytes, 2),
-        hidpp::parameter(bytes, 1),
-    )
+    let a = hidpp::parameter(bytes, 1);
+    let b = hidpp::parameter(bytes, 2);
+    let c = hidpp::parameter(bytes, 3);
+    let d = hidpp::parameter(bytes, 4);
+    report::join4(d, c, b, a)
 }
 
 // What a report gives that is taken at this port.
@@ -111,9 +110,10 @@ pub fn keep(port: Port, number: u32) -> Kept
     let serial = port.serial;
     if is_another(serial, number) {
         let places = port.places;
+        let dropped = port::count_waiting(places);
         let fresh = port::paired_anew(port, port.wpid, port.reports);
         return Kept {
-            dropped: port::count_waiting(places),
+            dropped,
             port: port::with_serial(fresh, port::Serial::Known(number)),
         };
     }

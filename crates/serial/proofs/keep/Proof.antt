@@ -12,7 +12,7 @@ returns c = simp (not-true (c .before .before .args .port .paired) (c .if1 .take
 
 returns-2 : tie.Need-returns-2
 unfolding serialRule
-returns-2 c = simp (not-false (c .before .before .before .before .before .before .before .before .args .port .paired) (c .before .before .before .before .before .before .if1 .left), sym (c .before .before .before .before .before .is-another .ensures) ∙ c .before .before .before .before .if2 .taken, c .before .count-waiting .ensures, c .with-serial .ensures, c .before .before .paired-anew .ensures)
+returns-2 c = simp (not-false (c .before .before .before .before .before .before .before .before .args .port .paired) (c .before .before .before .before .before .before .if1 .left), sym (c .before .before .before .before .before .is-another .ensures) ∙ c .before .before .before .before .if2 .taken, c .before .before .count-waiting .ensures, c .with-serial .ensures, c .before .paired-anew .ensures)
 
 returns-3 : tie.Need-returns-3
 unfolding serialRule
