@@ -1,11 +1,10 @@
 // The station: seven ports, and the calls on them.
 ghost use mathlib.Core.Path.{_≡_};
 ghost use Prim.Native.Nat.{_<_};
-ghost use Rattle.report.specs.Reading as reading;
-ghost use Rattle.report.specs.ReportContracts.{hidppOf};
 ghost use Rattle.port.specs.PortContracts.{takenOf};
+ghost use Rattle.serial.specs.SerialContracts.{givenOf};
 ghost use Rattle.station.specs.Stations.{freshStation, positionOf, portCount, numberAt};
-ghost use Rattle.station.specs.StationTaking.{withDrops, takeBy};
+ghost use Rattle.station.specs.StationTaking.{withDrops, alsoAt};
 ghost use Rattle.station.specs.StationCalls.{tickAll};
 ghost use Rattle.station.specs.StationContracts.{takeOutcome, tickOutcome};
 ghost use Rattle.station.specs.StationPromises.{TakePromise, RequestPromise, CancelPromise, TickPromise, SwitchPromise, GetPairedPromise, LedPromise, ListPromise};
@@ -17,7 +16,6 @@ use port::waiting;
 use port::waiting::Cancelled;
 use report::Device;
 use report::FeatureIndex;
-use report::HidppReport;
 use report::Reading;
 use report::Refusal;
 use serial::Given;
@@ -82,26 +80,17 @@ fn with_drops(answer: Taken, dropped: u8) -> Taken
     }
 }
 
-// Takes a HID++ report that may give a device's serial: it is stored at that device's port.
-fn take_serial(mut station: Station, h: HidppReport, bytes: &[u8]) -> TakeResult
-    ensures { λ r. ⌜ takeOutcome r ≡ takeBy (reading.hidpp (hidppOf h)) (now (bytes .entry)) station ⌝ }
+// Keeps a serial that was given at its device's port, beside what a report did at its own.
+fn also_at(mut station: Station, answer: Taken, given: Given) -> TakeResult
+    ensures { λ r. ⌜ takeOutcome r ≡ alsoAt station (givenOf given) (record { answer = takenOf answer; station = station }) ⌝ }
 {
-    let position = position_of(h.device);
-    let port = station.ports[position];
-    let taken = hidpp::take_at(port, h, bytes);
-    let answer = taken.answer;
-    let next = taken.port;
-    match serial::given_by(port, h, bytes) {
-        Given::Nothing => {
-            station.ports[position] = next;
-            TakeResult { answer, station }
-        }
+    match given {
+        Given::Nothing => TakeResult { answer, station },
         Given::Serial { device, number } => {
-            let beside = position_of(device);
-            let kept = serial::keep(station.ports[beside], number);
-            let other = kept.port;
+            let position = position_of(device);
+            let kept = serial::keep(station.ports[position], number);
+            let next = kept.port;
             station.ports[position] = next;
-            station.ports[beside] = other;
             TakeResult {
                 answer: with_drops(answer, kept.dropped),
                 station,
@@ -155,18 +144,14 @@ impl Station {
                 station: self,
             },
             Reading::Hidpp(h) => {
-                if serial::is_report(h) {
-                    return take_serial(self, h, bytes);
-                }
                 let position = position_of(h.device);
-                let taken = hidpp::take_at(self.ports[position], h, bytes);
+                let port = self.ports[position];
+                let given = serial::given_by(port, h, bytes);
+                let taken = hidpp::take_at(port, h, bytes);
                 let answer = taken.answer;
                 let next = taken.port;
                 self.ports[position] = next;
-                TakeResult {
-                    answer,
-                    station: self,
-                }
+                also_at(self, answer, given)
             }
             Reading::Dj(d) => {
                 let position = position_of(d.device);

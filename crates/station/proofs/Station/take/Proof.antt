@@ -2,33 +2,29 @@
 use mathlib.Core.Path.{sym, _∙_, ap}
 use Rattle.report.specs.ReportContracts.{readingOf}
 use Rattle.port.specs.Records.{withLink}
-use Rattle.serial.specs.SerialLaws.{no-report}
 use Rattle.station.specs.StationTaking.{takeBy}
-use Rattle.station.specs.StationTakingLaws.{take-read, take-alone, take-dj, take-radio}
+use Rattle.station.specs.StationTakingLaws.{take-read, take-hidpp, take-dj, take-radio}
 use borrow.Author.Needs.{needs}
 use Rattle.station.proofs.Station.take.Statement.{statement}
 use Rattle.station.proofs.Station.take.Tie as tie
 
 returns : tie.Need-returns
-returns c = c .take-serial .ensures ∙ take-read _ _ (sym (c .before .before .before .before .before .before .read .ensures) ∙ ap readingOf (c .before .before .before .before .h .given .1))
+unfolding withLink
+returns c = take-radio _ _ _ (c .radio-answer .result) (sym (c .before .before .before .before .before .before .before .before .before .read .ensures) ∙ ap readingOf (c .before .before .before .before .before .before .before .d .given .1)) (c .before .before .before .before .before .position-of2 .ensures .0) (sym (c .before .before .before .is-accepted .ensures) ∙ c .before .before .if1 .taken) (c .radio-answer .ensures)
 
 returns-2 : tie.Need-returns-2
-unfolding withLink
-returns-2 c = take-radio _ _ _ (c .radio-answer .result) (sym (c .before .before .before .before .before .before .before .before .before .read .ensures) ∙ ap readingOf (c .before .before .before .before .before .before .before .d .given .1)) (c .before .before .before .before .before .position-of2 .ensures .0) (sym (c .before .before .before .is-accepted .ensures) ∙ c .before .before .if2 .taken) (c .radio-answer .ensures)
+unfolding takeBy
+returns-2 c = take-read _ _ (sym (c .before .before .before .read .ensures) ∙ ap readingOf (c .before .refusal .given .1))
 
 returns-3 : tie.Need-returns-3
 unfolding takeBy
-returns-3 c = take-read _ _ (sym (c .before .before .before .read .ensures) ∙ ap readingOf (c .before .refusal .given .1))
+returns-3 c = take-read _ _ (sym (c .before .before .read .ensures) ∙ ap readingOf (c .enum-told .given .1))
 
 returns-4 : tie.Need-returns-4
-unfolding takeBy
-returns-4 c = take-read _ _ (sym (c .before .before .read .ensures) ∙ ap readingOf (c .enum-told .given .1))
+returns-4 c = take-hidpp _ _ (_) (c .before .before .take-at .result) (c .before .before .before .given-by .result) (sym (c .before .before .before .before .before .before .before .before .before .read .ensures) ∙ ap readingOf (c .before .before .before .before .before .before .before .h .given .1)) (c .before .before .before .before .before .position-of .ensures .0) (c .before .before .before .given-by .ensures) (c .before .before .take-at .ensures) (c .also-at .ensures)
 
 returns-5 : tie.Need-returns-5
-returns-5 c = take-alone _ _ _ (c .before .take-at .result) (c .before .before .before .position-of .ensures .0) (c .before .take-at .ensures) (sym (no-report _ _ _ (sym (c .before .before .before .before .before .is-report .ensures) ∙ c .before .before .before .before .if1 .left))) ∙ take-read _ _ (sym (c .before .before .before .before .before .before .before .before .before .read .ensures) ∙ ap readingOf (c .before .before .before .before .before .before .before .h .given .1))
-
-returns-6 : tie.Need-returns-6
-returns-6 c = take-dj _ _ _ (c .before .take-at2 .result) (sym (c .before .before .before .before .before .before .before .before .before .read .ensures) ∙ ap readingOf (c .before .before .before .before .before .before .before .d .given .1)) (c .before .before .before .before .before .position-of2 .ensures .0) (c .before .take-at2 .ensures)
+returns-5 c = take-dj _ _ _ (c .before .take-at2 .result) (sym (c .before .before .before .before .before .before .before .before .before .read .ensures) ∙ ap readingOf (c .before .before .before .before .before .before .before .d .given .1)) (c .before .before .before .before .before .position-of2 .ensures .0) (c .before .take-at2 .ensures)
 
 pub take-spec : {M : Type 1} → statement M
 take-spec =
@@ -39,27 +35,26 @@ take-spec =
     (λ c. search needs)
     (λ c. search needs)
     (λ c κs. search needs)
+    (λ c. search needs)
+    (λ c. search needs)
+    (λ c κs. search needs)
+    (λ c κs. search needs)
+    (λ c. search needs)
+    (λ c. search needs)
+    (λ c κs. search needs)
+    (λ c. search needs)
+    (λ c κs. search needs)
+    (λ c. search needs)
+    (λ c. search needs)
+    (λ c κs. search needs)
+    (λ c. search needs)
+    (λ c. search needs)
     (λ c κs. search needs)
     returns
     (λ c κs. search needs)
     (λ c. search needs)
     (λ c. search needs)
-    (λ c κs. search needs)
-    (λ c. search needs)
-    (λ c. search needs)
-    (λ c. search needs)
-    (λ c κs. search needs)
-    (λ c. search needs)
-    (λ c. search needs)
-    (λ c κs. search needs)
-    (λ c. search needs)
-    (λ c. search needs)
-    (λ c κs. search needs)
     returns-2
-    (λ c κs. search needs)
-    (λ c. search needs)
-    (λ c. search needs)
     returns-3
     returns-4
-    returns-5
-    returns-6)
+    returns-5)
