@@ -2,11 +2,10 @@
 ghost use mathlib.Core.Path.{_≡_};
 ghost use Prim.Native.Nat.{_<_};
 ghost use Rattle.port.specs.PortContracts.{takenOf};
-ghost use Rattle.serial.specs.SerialContracts.{givenOf};
 ghost use Rattle.station.specs.Stations.{freshStation, positionOf, portCount, numberAt};
-ghost use Rattle.station.specs.StationTaking.{withDrops, alsoAt};
+ghost use Rattle.station.specs.StationTaking.{withDrops};
 ghost use Rattle.station.specs.StationCalls.{tickAll};
-ghost use Rattle.station.specs.StationContracts.{takeOutcome, tickOutcome};
+ghost use Rattle.station.specs.StationContracts.{tickOutcome};
 ghost use Rattle.station.specs.StationPromises.{TakePromise, RequestPromise, CancelPromise, TickPromise, SwitchPromise, GetPairedPromise, LedPromise, ListPromise};
 use frame::Written;
 use port::Port;
@@ -80,25 +79,6 @@ fn with_drops(answer: Taken, dropped: u8) -> Taken
     }
 }
 
-// Keeps a serial that was given at its device's port, beside what a report did at its own.
-fn also_at(mut station: Station, answer: Taken, given: Given) -> TakeResult
-    ensures { λ r. ⌜ takeOutcome r ≡ alsoAt station (givenOf given) (record { answer = takenOf answer; station = station }) ⌝ }
-{
-    match given {
-        Given::Nothing => TakeResult { answer, station },
-        Given::Serial { device, number } => {
-            let position = position_of(device);
-            let kept = serial::keep(station.ports[position], number);
-            let next = kept.port;
-            station.ports[position] = next;
-            TakeResult {
-                answer: with_drops(answer, kept.dropped),
-                station,
-            }
-        }
-    }
-}
-
 fn tick_ports(ports: [Port; port::PORTS]) -> TickResult
     ensures { λ r. ⌜ tickOutcome r ≡ tickAll (record { ports = ports }) ⌝ }
 {
@@ -151,7 +131,23 @@ impl Station {
                 let answer = taken.answer;
                 let next = taken.port;
                 self.ports[position] = next;
-                also_at(self, answer, given)
+                match given {
+                    Given::Nothing => TakeResult {
+                        answer,
+                        station: self,
+                    },
+                    // A serial goes to its device's port.
+                    Given::Serial { device, number } => {
+                        let beside = position_of(device);
+                        let kept = serial::keep(self.ports[beside], number);
+                        let other = kept.port;
+                        self.ports[beside] = other;
+                        TakeResult {
+                            answer: with_drops(answer, kept.dropped),
+                            station: self,
+                        }
+                    }
+                }
             }
             Reading::Dj(d) => {
                 let position = position_of(d.device);
