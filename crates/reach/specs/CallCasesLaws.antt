@@ -27,7 +27,7 @@ use Rattle.hidpp.specs.declared.Message.{Message}
 use Rattle.hidpp.specs.HidppTaking.{messageOf, carried, isError, errorFits, named2, named3, errorRule, replyRule, featureRule, unaskedRule, takeHidpp}
 use Rattle.serial.specs.Serials.{Given, noSerial, serialOf, givenBy, isAnother, SerialResult, serialRule}
 use Rattle.serial.specs.Giving.{Gives}
-use Rattle.serial.specs.GivingLaws.{given-exactly}
+use Rattle.serial.specs.GivingLaws.{no-serial, given-exactly}
 use Rattle.dj.specs.DjTaking.{radioRule, unpairedRule, pairedRule, linkRule, otherRule, takeDj}
 use Rattle.request.specs.Requesting.{RequestAt, waitingRequest, requestBy, requestAt}
 use Rattle.station.specs.declared.Station.{Station}
@@ -259,13 +259,6 @@ reply-given p placed r bytes h =
     let no-error : isError (r .byte2) ≡ false = ap isError (h .byte2) in
     hidpp-only p placed (messageOf r bytes) (givesReply (no-error, waits))
 
-gives-no-serial : {device number : ℕ} → noSerial ≡ serialOf device number → ⊥
-gives-no-serial e = true≢false (ap none e)
-  where
-    none : Given → Bool
-    none noSerial = true
-    none (serialOf device number) = false
-
 none-given : (p : Port) (r : Report) (bytes : List ℕ) → ((device number : ℕ) → ¬ Gives p r bytes device number) → givenBy p r bytes ≡ noSerial
 none-given p r bytes n = go (givenBy p r bytes) refl
   where
@@ -322,7 +315,7 @@ module _ (st : Station) (placed : AllPlaced st) where
 
       go : (g : Given) → givenBy p r bytes ≡ g → StepCase st (take bytes) (takeStep bytes (alsoAt st g (storedAt st (positionOf (r .device)) (takeHidpp p m))))
       go noSerial q =
-          hidppAtPort e (λ device number h. gives-no-serial (sym q ∙ given-exactly p r bytes device number .1 h)) (hidpp-case p (at-port (r .device)) m)
+          hidppAtPort e (λ device number h. no-serial (sym q ∙ given-exactly p r bytes device number .1 h)) (hidpp-case p (at-port (r .device)) m)
       go (serialOf device number) q =
           let h = given-exactly p r bytes device number .0 q in
           subst (λ (x : Result). StepCase st (take bytes) (takeStep bytes (alsoAt st (serialOf device number) (storedAt st (positionOf (r .device)) x)))) (sym (reply-given p (at-port (r .device)) r bytes h))

@@ -22,7 +22,7 @@ use Rattle.port.specs.Places.{isEmpty, matches, countWaiting}
 use Rattle.port.specs.Waiting.{endedAt}
 use Rattle.port.specs.Answers.{Answer, refused, reply, stray, plain, event, failed, radio, notice, emptyList, Result}
 use Rattle.hidpp.specs.declared.Message.{Message}
-use Rattle.hidpp.specs.HidppTaking.{takeHidpp, messageOf, isError, errorFits, named2, named3, code}
+use Rattle.hidpp.specs.HidppTaking.{messageOf, isError, errorFits, named2, named3, code}
 use Rattle.serial.specs.Serials.{Given, noSerial, serialOf, givenBy, isAnother, SerialResult, serialRule}
 use Rattle.serial.specs.Giving.{Gives}
 use Rattle.serial.specs.GivingLaws.{given-exactly}
@@ -34,7 +34,7 @@ use Rattle.station.specs.StationTaking.{storedAt, withDrops, alsoAt, takeBy, ta
 use Rattle.sequence.specs.Readings.{ReadFits}
 use Rattle.sequence.specs.ReadingsLaws.{dj-port, read-fits}
 use Rattle.sequence.specs.Remaining.{view, takenDrops}
-use Rattle.sequence.specs.NumbersLaws.{one-number}
+use Rattle.sequence.specs.NumbersLaws.{device-port, one-number}
 use Rattle.sequence.specs.IndependenceLaws.{stored, elsewhere}
 use Rattle.reach.specs.Sound.{SoundPlaces, Reached}
 use Rattle.reach.specs.SoundLaws.{reply-records, error-records, event-records}
@@ -315,12 +315,6 @@ module _ (st : Station) (k : Reached st) (bytes : List ℕ) where
       fits : (byte bytes 1 ≡ 255) × (isDevice device ≡ true)
       fits = given-fits device number q
 
-      a-port : isPort device ≡ true
-      a-port = ap (λ (b : Bool). b || eqb device 255) (fits .1)
-
-      first : Station
-      first = withPort st (positionOf (byte bytes 1)) (x .port)
-
       by-given : (b c : Bool) → answersRequest bytes n (requestIn (view n st .places) i) ≡ b → swaps n (view n st) (serialOf device number) && not (isEmpty (requestIn (view n st .places) i)) ≡ c → (b || c) ≡ readEnds own (reading.hidpp report) bytes n (view n st) (requestIn (view n st .places) i)
       by-given b c e f = cc (q, e, f)
 
@@ -334,7 +328,7 @@ module _ (st : Station) (k : Reached st) (bytes : List ℕ) where
           ∙ serial-places (view n st) number (places-of n) i
           ∙ ap (λ (b : Bool). cond b emptyPlace (requestIn (view n st .places) i)) (by-given false ((view n st .paired && isAnother (view n st .serial) number) && not (isEmpty (requestIn (view n st .places) i))) (simp away) (simp e))
       go false e =
-          ap (λ (p : Port). requestIn (p .places) i) (elsewhere (withPort st (positionOf (byte bytes 1)) (x .port)) (positionOf device) (positionOf n) (serialRule (view device st) number .port) (λ y. eqb-false device n e (sym (one-number n device port a-port y))))
+          ap (λ (p : Port). requestIn (p .places) i) (elsewhere (withPort st (positionOf (byte bytes 1)) (x .port)) (positionOf device) (positionOf n) (serialRule (view device st) number .port) (λ y. eqb-false device n e (sym (one-number n device port (device-port device (fits .1)) y))))
           ∙ ends-at (byte bytes 1) n (x .port) d port (λ j p r. answered r) (h .place) i
           ∙ ap (λ (b : Bool). cond b emptyPlace (requestIn (view n st .places) i)) (sym (or-false (answersRequest bytes n (requestIn (view n st .places) i))) ∙ by-given (answersRequest bytes n (requestIn (view n st .places) i)) false refl (simp e))
 

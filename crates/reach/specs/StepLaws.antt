@@ -10,7 +10,7 @@ use lib.Seq.{getD-set-same, getD-set-other}
 use lib.Dec.{eqb}
 use borrow.Author.Tests.{eqb-true, eqb-false, eq-eqb, ne-eqb}
 use Rattle.report.specs.ChoicesLaws.{by-case, neither}
-use Rattle.report.specs.Ports.{receiver, isDevice, isPort}
+use Rattle.report.specs.Ports.{receiver, isPort}
 use Rattle.report.specs.Sizes.{byte, hidppStart, djStart}
 use Rattle.report.specs.Reading as reading
 use Rattle.report.specs.Reading.{Report, reportFrom, readRule}
@@ -39,7 +39,7 @@ use Rattle.sequence.specs.Starts.{Start, fresh}
 use Rattle.sequence.specs.Steps.{Call, take, request, cancel, tick, write, CallAnswer, taken, written, cancelled, ticked, Outcome, takeStep, tickStep, step, run}
 use Rattle.sequence.specs.Transcripts.{transcript}
 use Rattle.sequence.specs.Remaining.{view}
-use Rattle.sequence.specs.NumbersLaws.{one-number}
+use Rattle.sequence.specs.NumbersLaws.{device-port, one-number}
 use Rattle.sequence.specs.IndependenceLaws.{stored, elsewhere, ticked-at, counted-at}
 use Rattle.reach.specs.ListsLaws.{found-passes, sum-set, after-map}
 use Rattle.reach.specs.Sound.{SoundPort, Reached}
@@ -251,9 +251,6 @@ module _ (st : Station) (k : Reached st) where
     is-device : deviceFor (byte bytes 4) ≡ device
     is-device = parameter-of device (byte bytes 4) (g .named) (g .repeated) .1
 
-    a-port : isPort device ≡ true
-    a-port = ap (λ (b : Bool). b || eqb device receiver) (g .named)
-
     apart : eqb (r .device) device ≡ false
     apart =
         ne-eqb (r .device) device (λ q. let z : device ≡ 255 = sym q ∙ g .receiver in omega (arith, device-number device (g .named) .1))
@@ -283,11 +280,11 @@ module _ (st : Station) (k : Reached st) where
         let c = take bytes in
         record {
           reached = reached-with (withPort st (positionOf (r .device)) (repliedPort p message)) (reached-with st k (positionOf (r .device)) (position-within (r .device)) (repliedPort p message) (hidpp-sound _ _ s replies)) (positionOf device) (position-within device) (x .port) (serial-sound _ _ (sound-at device) h);
-          ends = λ n i. two-ports (λ j y z. EndsAt j c (taken answer) y z) (r .device) device n (repliedPort p message) (x .port) (fits .0) a-port i
+          ends = λ n i. two-ports (λ j y z. EndsAt j c (taken answer) y z) (r .device) device n (repliedPort p message) (x .port) (fits .0) (device-port device (g .named)) i
               (ends-only (r .device) c (taken answer) refl refl (reply-ends p (s .waiting) bytes message (x .dropped) waits))
               (ends-only device c (taken answer) refl refl (subst (λ (y : Ending). EndingAt device y (view device st) (x .port)) (sym drops-there) (serial-ends (view device st) (sound-at device .waiting) device number h)))
               (λ y z. ends-only n c (taken answer) refl refl (ends-elsewhere n (view n st) (view n st) (takeEnding n bytes answer) (drops-elsewhere n y z) refl));
-          changes = λ n i. two-ports (λ j y z. ChangesListed j c (taken answer) (view receiver st) y z) (r .device) device n (repliedPort p message) (x .port) (fits .0) a-port i
+          changes = λ n i. two-ports (λ j y z. ChangesListed j c (taken answer) (view receiver st) y z) (r .device) device n (repliedPort p message) (x .port) (fits .0) (device-port device (g .named)) i
               (listed-at _ (device-in hidppStart bytes (fits .1 .1)) (hidpp-keeps replies))
               (λ f q. unlisted-kept (serial-keeps device h) f (subst (λ (y : Given). serialLists device (view device st) y f ≡ false) is-given (neither (eqb (byte bytes 1) device && takeLists (view device st) answer f) (serialLists device (view device st) (givenBy (view receiver st) (reportFrom hidppStart bytes) bytes) f) q .1)))
               (λ y z. unlisted-kept (keeps-all _ (view n st)));

@@ -8,7 +8,7 @@ use native.Mathlib.Omega.{arith}
 use lib.ListN.{length, getD, set, length-set, length-map, List·getD-map}
 use lib.Seq.{getD-set-same, getD-set-other, ext-getD}
 use borrow.Author.Tests.{eqb-true, eqb-false, eq-eqb}
-use Rattle.report.specs.ChoicesLaws.{by-case, neither}
+use Rattle.report.specs.ChoicesLaws.{neither}
 use Rattle.report.specs.Ports.{receiver, isDevice, isPort}
 use Rattle.report.specs.Sizes.{byte}
 use Rattle.port.specs.declared.Port.{Port}
@@ -27,7 +27,7 @@ use Rattle.sequence.specs.Targets.{Target, none, one, all, isFor}
 use Rattle.sequence.specs.Transcripts.{transcript}
 use Rattle.sequence.specs.Remaining.{view, remaining, dropsIn, dropsFor, withDropsIn, Compared, whole, count, drops, ownReturned, comparedOf, compared}
 use Rattle.sequence.specs.Independence.{remains, Alone, SameOrders}
-use Rattle.sequence.specs.NumbersLaws.{one-number, number-at}
+use Rattle.sequence.specs.NumbersLaws.{device-port, one-number, number-at}
 use Rattle.sequence.specs.LocalLaws.{outcomeFrom, alsoStep, AtPort, Shape, shape}
 
 -- seven ports
@@ -67,9 +67,6 @@ beside n (serialOf device serial) q = cond (eqb device n) (serialRule q serial .
 not-receiver : (device : ℕ) → isDevice device ≡ true → device ≡ receiver → ⊥
 not-receiver device h e = omega (arith, device-number device h .1)
 
-a-port : (device : ℕ) → isDevice device ≡ true → isPort device ≡ true
-a-port device h = ap (λ (b : Bool). b || eqb device receiver) h
-
 -- after a call for the port of a number: that port, and each other
 module _ {c : Call} {number : ℕ} (s : AtPort c number) (st : Station) (seven : Seven st) (n : ℕ) (port : isPort n ≡ true) where
   abbrev own : Port
@@ -105,14 +102,14 @@ module _ {c : Call} {number : ℕ} (s : AtPort c number) (st : Station) (seven :
       at true e true d =
           absurd (not-receiver device (h .1) (eqb-true device n d ∙ sym (eqb-true number n e) ∙ h .0))
       at true e false d =
-          elsewhere stored-own (positionOf device) (positionOf n) _ (apart (a-port device (h .1)) (eqb-false device n d)) ∙ own-by true e
+          elsewhere stored-own (positionOf device) (positionOf n) _ (apart (device-port device (h .1)) (eqb-false device n d)) ∙ own-by true e
       at false e true d =
           let is : device ≡ n = eqb-true device n d in
           ap (λ (i : ℕ). portAt (withPort stored-own (positionOf device) (serialRule (portFor st device) serial .port)) (positionOf i)) (sym is)
           ∙ stored stored-own (positionOf device) _ (position-within device) seven-own
           ∙ ap (λ (i : ℕ). serialRule (portFor st i) serial .port) is
       at false e false d =
-          elsewhere stored-own (positionOf device) (positionOf n) _ (apart (a-port device (h .1)) (eqb-false device n d)) ∙ own-by false e
+          elsewhere stored-own (positionOf device) (positionOf n) _ (apart (device-port device (h .1)) (eqb-false device n d)) ∙ own-by false e
 
   pub after : portFor (step st c .station) n ≡ cond (eqb number n) (s .next own) (beside n (s .given own) (portFor st n))
   after =

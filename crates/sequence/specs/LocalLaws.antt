@@ -1,7 +1,7 @@
 -- Document 01, "Sequences of calls", and document 02, Ask 1: a call acts at its port alone, and a reply on 255 that gives a device's serial at that device's too. Laws of one step, by the call's target.
 use Prim.Native.Nat.{ℕ}
 use mathlib.Core.Path.{_≡_, refl, sym, _∙_, ap}
-use mathlib.Core.Bool.{Bool, true, false, cond, true≢false}
+use mathlib.Core.Bool.{Bool, true, false, cond}
 use mathlib.Core.List.{List, []}
 use Rattle.report.specs.Ports.{receiver, isDevice, isPort}
 use Rattle.report.specs.Sizes.{byte}
@@ -11,7 +11,7 @@ use Rattle.port.specs.declared.Port.{Port}
 use Rattle.port.specs.Waiting.{cancelAt}
 use Rattle.hidpp.specs.HidppTaking.{takeHidpp, messageOf}
 use Rattle.serial.specs.Serials.{parameterFor, Given, noSerial, serialOf, givenBy, serialRule}
-use Rattle.serial.specs.GivingLaws.{given-exactly}
+use Rattle.serial.specs.GivingLaws.{no-serial, given-exactly}
 use Rattle.dj.specs.DjTaking.{takeDj}
 use Rattle.request.specs.Requesting.{requestAt}
 use Rattle.station.specs.declared.Station.{Station}
@@ -55,18 +55,11 @@ Shape c none = (st : Station) → step st c .station ≡ st
 Shape c (one number) = AtPort c number
 Shape c all = (st : Station) → step st c ≡ tickStep (tickAll st)
 
-no-serial : {device serial : ℕ} {A : Type 0} → noSerial ≡ serialOf device serial → A
-no-serial e = absurd (true≢false (ap none e))
-  where
-    none : Given → Bool
-    none noSerial = true
-    none (serialOf device serial) = false
-
 -- a call that gives no serial
 module _ (c : Call) (number : ℕ) (next : Port → Port) (returns : Port → Returned) where
   at-port : isPort number ≡ true → ((st : Station) → step st c ≡ outcomeFrom (returns (portFor st number)) (withPort st (positionOf number) (next (portFor st number)))) → AtPort c number
   at-port h e =
-      record { names = h; next = next; returns = returns; given = λ p. noSerial; does = e; fits = λ p device serial q. no-serial q }
+      record { names = h; next = next; returns = returns; given = λ p. noSerial; does = e; fits = λ p device serial q. absurd (no-serial q) }
 
 take-shape : (bytes : List ℕ) (x : reading.Read) → reading.readRule bytes ≡ x → ReadFits bytes x → Shape (take bytes) (readTarget x)
 unfolding step takeRule takeBy

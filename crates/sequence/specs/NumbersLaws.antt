@@ -1,13 +1,17 @@
 -- Document 01, "Ports and their records": the seven numbers of ports, and their positions.
 use Prim.Native.Nat.{ℕ, suc, _<_}
-use mathlib.Core.Path.{_≡_, refl}
-use mathlib.Core.Bool.{Bool, true, false, cond}
+use mathlib.Core.Path.{_≡_, refl, ap}
+use mathlib.Core.Bool.{Bool, true, false, cond, _||_}
 use native.Mathlib.Omega.{arith}
 use borrow.Author.Tests.{eqb-true, ltb-true, ltb-false, le-leb}
-use lib.Dec.{ltb}
+use lib.Dec.{ltb, eqb}
 use Rattle.report.specs.Ports.{deviceCount, receiver, isDevice, isPort}
 use Rattle.station.specs.Stations.{portCount, receiverPosition, positionOf, numberAt}
 use Rattle.station.specs.StationsLaws.{device-number, device-position, other-position}
+
+-- a device is a port
+pub device-port : (device : ℕ) → isDevice device ≡ true → isPort device ≡ true
+device-port device h = ap (λ (b : Bool). b || eqb device receiver) h
 
 -- two ports have two positions
 pub one-number : (a b : ℕ) → isPort a ≡ true → isPort b ≡ true → positionOf a ≡ positionOf b → a ≡ b

@@ -2,24 +2,22 @@
 use Prim.Native.Nat.{ℕ, _+_, _-_}
 use mathlib.Core.Path.{_≡_, refl, sym, _∙_, ap, subst}
 use mathlib.Core.Logic.{_↔_}
-use mathlib.Core.Bool.{Bool, true, false, cond, _||_, true≢false, false≢true}
-use mathlib.Core.List.{List, [], _∷_}
+use mathlib.Core.Bool.{Bool, true, false, cond, _||_, false≢true}
+use mathlib.Core.List.{List, _∷_}
 use native.Mathlib.Omega.{arith}
 use lib.Dec.{eqb}
 use borrow.Author.Tests.{eqb-true, eq-eqb, ne-eqb}
-use Rattle.report.specs.Ports.{receiver, isDevice}
+use Rattle.report.specs.Ports.{receiver}
 use Rattle.report.specs.Sizes.{byte}
 use Rattle.port.specs.Answers as answers
-use Rattle.station.specs.declared.Station.{Station}
 use Rattle.station.specs.StationsLaws.{device-number}
 use Rattle.serial.specs.Serials.{parameterFor}
-use Rattle.sequence.specs.Starts.{Start}
 use Rattle.sequence.specs.Steps.{Call, CallAnswer, taken, written, cancelled, ticked, Returned}
 use Rattle.sequence.specs.Targets.{Target, none, one, all, isFor}
-use Rattle.sequence.specs.Transcripts.{Entry, transcript, callsOf}
-use Rattle.sequence.specs.Remaining.{remaining, withDropsIn, dropsIn, dropsFor, Compared, whole, drops, ownReturned, comparedOf}
+use Rattle.sequence.specs.Transcripts.{Entry, callsOf}
+use Rattle.sequence.specs.Remaining.{remaining, withDropsIn, dropsFor, whole, drops, ownReturned}
 use Rattle.sequence.specs.IndependenceLaws.{orders}
-use Rattle.sequence.specs.Stays.{Stays, ownCall, tickCall, receiverCall, Kept, keptNone, keptCall, struckCall, SameButDrops, sameAnswer, sameReply, SameLent, ComparesOwn, ComparesReceiver, ComparesDrops, OrdersAgree}
+use Rattle.sequence.specs.Stays.{Stays, ownCall, tickCall, receiverCall, Kept, keptNone, keptCall, struckCall, SameButDrops, sameAnswer, sameReply, ComparesOwn, ComparesReceiver, ComparesDrops, OrdersAgree}
 
 -- exactly those calls stay
 or-true : (b : Bool) → (b || true) ≡ true

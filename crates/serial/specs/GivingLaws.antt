@@ -1,7 +1,7 @@
 -- Document 02, Ask 1: a serial is given exactly then.
-use Prim.Native.Nat.{ℕ, suc, _+_, _-_, _≤_}
-use mathlib.Core.Path.{_≡_, refl, sym, _∙_, ap}
-use mathlib.Core.Bool.{Bool, true, false, cond, _&&_, true≢false}
+use Prim.Native.Nat.{ℕ, _+_, _-_, _≤_}
+use mathlib.Core.Path.{_≡_, sym, _∙_, ap}
+use mathlib.Core.Bool.{Bool, true, false, _&&_, true≢false}
 use mathlib.Core.List.{List}
 use native.Mathlib.Omega.{arith}
 use lib.Dec.{leb, eqb}
@@ -34,8 +34,9 @@ parameter-of device first e q =
 same-device : {a b m n : ℕ} → serialOf a m ≡ serialOf b n → (a ≡ b) × (m ≡ n)
 same-device e = (cc e, cc e)
 
-is-none : {device number : ℕ} → noSerial ≡ serialOf device number → ⊥
-is-none e = true≢false (ap none e)
+-- a report that gives none gives no device's
+pub no-serial : {device number : ℕ} → noSerial ≡ serialOf device number → ⊥
+no-serial e = true≢false (ap none e)
   where
     none : Given → Bool
     none noSerial = true
@@ -74,7 +75,7 @@ module _ (p : Port) (r : Report) (bytes : List ℕ) where
         let more = both (isForDevice first) (isAskedWith p first) (all .1) in
         let same = same-device e in
         gives device number (all .0) (more .0) (more .1) (same .0) (same .1))
-        (λ h e. absurd (is-none e)),
+        (λ h e. absurd (no-serial e)),
     λ g.
         let at = parameter-of device first (g .named) (g .repeated) in
         let report : isSerialReport r ≡ true = cc (eq-eqb _ _ (g .receiver), eq-eqb _ _ (g .long), eq-eqb _ _ (g .byte2), eq-eqb _ _ (g .byte3)) in

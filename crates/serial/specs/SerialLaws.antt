@@ -7,16 +7,11 @@ use native.Mathlib.Numerals.{add-one}
 use Rattle.report.specs.Reading.{Report}
 use Rattle.port.specs.declared.Port.{Port}
 use Rattle.hidpp.specs.HidppTaking.{parameter}
-use Rattle.serial.specs.Serials.{isForDevice, isSerialReport, isAskedWith, Given, noSerial, serialOf, deviceFor, serialIn, givenBy}
+use Rattle.serial.specs.Serials.{isForDevice, isSerialReport, isAskedWith, noSerial, serialOf, deviceFor, serialIn, givenBy}
 
 -- three hold: the fourth decides
 pub fourth : {a b c : Bool} (d : Bool) → a ≡ true → b ≡ true → c ≡ true → d ≡ a && (b && (c && d))
 fourth d p q r = cc (p, q, r)
-
--- a report of another kind gives none
-pub no-report : (p : Port) (r : Report) (bytes : List ℕ) → isSerialReport r ≡ false → givenBy p r bytes ≡ noSerial
-unfolding givenBy
-no-report p r bytes e = cc e
 
 module _ (p : Port) (r : Report) (bytes : List ℕ) {first : ℕ} (is : first ≡ parameter bytes 0) (report : isSerialReport r ≡ true) where
   chosen : (b c : Bool) → isForDevice first ≡ b → isAskedWith p first ≡ c → givenBy p r bytes ≡ cond (b && c) (serialOf (deviceFor first) (serialIn bytes)) noSerial

@@ -1,7 +1,7 @@
 // A device's serial: the reply that gives it, and what it does at the device's port.
 ghost use mathlib.Core.Path.{_≡_};
 ghost use Rattle.report.specs.ReportContracts.{hidppOf};
-ghost use Rattle.serial.specs.Serials.{isForDevice, isSerialReport, isAskedWith, serialIn, givenBy, isAnother, serialRule};
+ghost use Rattle.serial.specs.Serials.{isSerialReport, isAskedWith, serialIn, givenBy, isAnother, serialRule};
 ghost use Rattle.serial.specs.SerialContracts.{givenOf, keptOf};
 use port::Port;
 use report::Device;
@@ -31,8 +31,8 @@ pub struct Kept {
 }
 
 // Whether the report is a long one of the register, on port 255.
-pub fn is_report(h: HidppReport) -> bool
-    ensures report { λ r. ⌜ r ≡ isSerialReport (hidppOf h) ⌝ }
+fn is_report(h: HidppReport) -> bool
+    ensures { λ r. ⌜ r ≡ isSerialReport (hidppOf h) ⌝ }
 {
     if h.device.0 != report::RECEIVER {
         return false;
