@@ -24,7 +24,7 @@ use Rattle.sequence.specs.Targets.{all}
 use Rattle.sequence.specs.Sentence.{sentence}
 use Rattle.sequence.specs.Refused.{isRefusal}
 use Rattle.sequence.specs.Transcripts.{Entry, callsOf, transcript}
-use Rattle.sequence.specs.Remaining.{view, remaining, comparedOf, compared}
+use Rattle.sequence.specs.Remaining.{view, remaining, takenDrops, comparedOf, compared}
 use Rattle.sequence.specs.Stays.{Stays, ComparesOwn, ComparesReceiver, ComparesDrops}
 use Rattle.sequence.specs.Histories.{Ensured, Made, callOf, History, stationAfter, made}
 use Rattle.reach.specs.Sound.{Reached}
@@ -64,6 +64,8 @@ pub record Demands : Type 0 where
   pub beside : (st : Station) → Reached st → (bytes : List ℕ) → isHidppRead (readRule bytes) ≡ true → (n : ℕ) → isPort n ≡ true → ¬ (byte bytes 1 ≡ n) → (i : ℕ) → (endsIn st bytes n i ≡ true) ↔ (Swaps st bytes n × (isEmpty (requestIn (portFor st n .places) i) ≡ false))
   -- A long reply on port 255 to the request for register B5 that waits with first parameter 0x30 + device − 1, with the same first parameter (`Gives`), gives that device's serial: where the device is paired, the port has it, and where a different one was known, the port is first made fresh but for pairing, WPID and bitfield; the answer counts the requests dropped so
   pub serials : (st : Station) → Reached st → (bytes : List ℕ) (r : TakeResult) → Ensured st (take bytes) (takeStep bytes (takeOutcome r)) → isHidppRead (readRule bytes) ≡ true → (n number : ℕ) → Gives (portFor st 255) (reportFrom hidppStart bytes) bytes n number → Told (portFor st n) (portFor (r .station) n) number (takenOf (r .answer))
+  -- Every other answer drops none
+  pub no-drops : (st : Station) → Reached st → (bytes : List ℕ) (r : TakeResult) → Ensured st (take bytes) (takeStep bytes (takeOutcome r)) → ((n number : ℕ) → ¬ Gives (portFor st 255) (reportFrom hidppStart bytes) bytes n number) → takenDrops (takenOf (r .answer)) ≡ 0
   -- Records change only as documents 01 and 02 list: of every port, by every call, a field that is not listed stays
   pub changes : (st : Station) → Reached st → (c : Call) (o : Outcome) → Ensured st c o → (n : ℕ) → isPort n ≡ true → ChangesListed n c (o .answer) (portFor st 255) (portFor st n) (portFor (o .station) n)
   -- Each count is that of places emptied: what becomes of every place of every port by every call, and the counts for each way in which a request ends
@@ -74,7 +76,7 @@ pub record Demands : Type 0 where
   -- Every answer and the lent bytes after every call are those that the rules give, and so is the station at the end
   pub every-answer : (st : Station) (ms : List Made) → History st ms → made st ms ≡ transcript st (map callOf ms)
   pub final-station : (st : Station) (ms : List Made) → History st ms → stationAfter st ms ≡ run st (map callOf ms)
-  -- For each port, strike out every call for another port or for none, and keep the ticks and every call for 255: which port a call is for is what document 01 says of its answer
+  -- For each port, strike out every call for another device or for none, and keep the ticks and every call for 255: which port a call is for is what document 01 says of its answer
   pub struck : (st : Station) (c : Call) (o : Outcome) → Ensured st c o → labelOf st c ≡ sentence c (o .answer)
   pub left-in : (n : ℕ) (e : Entry) (es : List Entry) → Stays n (e .label) → remaining n (e ∷ es) ≡ e ∷ remaining n es
   pub struck-out : (n : ℕ) (e : Entry) (es : List Entry) → ¬ Stays n (e .label) → remaining n (e ∷ es) ≡ remaining n es

@@ -4,7 +4,7 @@ use mathlib.Core.Path.{_≡_, refl, sym, _∙_, ap, subst}
 use mathlib.Core.Bool.{Bool, true, false, cond, _&&_, _||_, true≢false}
 use mathlib.Core.List.{List, [], _∷_, _++_, map}
 use native.Mathlib.Omega.{arith}
-use lib.ListN.{length, getD}
+use lib.ListN.{length, getD, replicate}
 use lib.Dec.{eqb}
 use denote.Ref.{RefT, now}
 use Rattle.report.specs.Ports.{isDevice, isPort}
@@ -19,7 +19,9 @@ use Rattle.port.specs.declared.Port.{Port}
 use Rattle.port.specs.declared.Request.{Request}
 use Rattle.port.specs.declared.Serial.{Serial}
 use Rattle.port.specs.declared.Serial.the-variants.{Unknown, Known}
-use Rattle.port.specs.Records.{emptyPlace, requestIn, withSerial}
+use Rattle.port.specs.declared.Version.the-variants as versions
+use Rattle.port.specs.declared.Battery.the-variants as batteries
+use Rattle.port.specs.Records.{emptyPlace, freshPort, madeFresh, requestIn, withPairing, withSerial}
 use Rattle.port.specs.Places.{isEmpty}
 use Rattle.port.specs.Answers as answers
 use Rattle.port.specs.PortContracts.{takenOf}
@@ -51,7 +53,7 @@ use Rattle.sequence.specs.Refused.{isRefusal}
 use Rattle.sequence.specs.Transcripts.{Entry, callsOf, transcript}
 use Rattle.sequence.specs.Remaining.{view, remaining, takenDrops, comparedOf, compared}
 use Rattle.sequence.specs.Independence.{Alone}
-use Rattle.sequence.specs.Stays.{Stays, ownCall, tickCall, receiverCall, SameButDrops}
+use Rattle.sequence.specs.Stays.{Stays, ownCall, tickCall, receiverCall, SameButDrops, Drops}
 use Rattle.sequence.specs.Histories.{Ensured, Made, callOf, History, stationAfter, made}
 use Rattle.reach.specs.Sound.{Reached}
 use Rattle.reach.specs.CallCases.{AllPlaced, ByCases, SerialCase, keepsNone, firstSerial, sameSerial, otherSerial}
@@ -82,19 +84,27 @@ known-so e = true≢false (ap unknown e)
     unknown Unknown = true
     unknown (Known known) = false
 
--- a call for device 3 does not stay for device 2
-named-3 : Stays 2 (one 3) → ⊥
-named-3 s = go (one 3) s refl
+same-known : {a b : ℕ} → Known a ≡ Known b → a ≡ b
+same-known e = cc e
+
+-- a call for a device stays for no other port
+named : (n device : ℕ) → ¬ (device ≡ n) → ¬ (device ≡ 255) → ¬ Stays n (one device)
+named n device other away s = go (one device) s refl
   where
     number : Target → ℕ
     number none = 0
     number (one n) = n
-    number all = 0
+    number all = device
 
-    go : (t : Target) → Stays 2 t → t ≡ one 3 → ⊥
-    go t ownCall q = let z : _≡_ {A = ℕ} 2 3 = ap number q in omega arith
-    go t tickCall q = let z : _≡_ {A = ℕ} 0 3 = ap number q in omega arith
-    go t receiverCall q = let z : _≡_ {A = ℕ} 255 3 = ap number q in omega arith
+    is-one : Target → Bool
+    is-one none = false
+    is-one (one n) = true
+    is-one all = false
+
+    go : (t : Target) → Stays n t → t ≡ one device → ⊥
+    go t ownCall q = other (sym (ap number q))
+    go t tickCall q = true≢false (sym (ap is-one q))
+    go t receiverCall q = away (sym (ap number q))
 
 module _ (d : Demands) where
   -- the station that a call hands back is the rules' next one
@@ -200,6 +210,32 @@ module _ (d : Demands) where
           go (sameSerial z y) = (refl, refl)
           go (otherSerial known z y differs) = absurd (known-so (sym unknown ∙ y))
 
+      -- of another pad nothing is known but its pairing, its model and its reports, and the serial
+      twin-forgets : (known : ℕ) → portFor st 2 .serial ≡ Known known → ¬ (known ≡ number) → portFor (r .station) 2 ≡ record {
+        paired = true;
+        wpid = portFor st 2 .wpid;
+        reports = portFor st 2 .reports;
+        up = false;
+        version = versions.Unknown;
+        features = replicate 5 (record { 0 = 0 });
+        battery = batteries.Unknown;
+        serial = Known number;
+        places = replicate 4 emptyPlace;
+      }
+      unfolding withSerial withPairing madeFresh freshPort
+      twin-forgets before is differs = let t = d .serials st k bytes r e h 2 number g in t .port ∙ go (t .so)
+        where
+          go : {x : SerialResult} → SerialCase (portFor st 2) number x → x .port ≡ withSerial (withPairing (madeFresh (portFor st 2)) (portFor st 2 .wpid) (portFor st 2 .reports)) (Known number)
+          go (keepsNone z) = absurd (true≢false (sym paired ∙ z))
+          go (firstSerial z y) = absurd (known-so (sym y ∙ is))
+          go (sameSerial z y) = absurd (differs (same-known (sym is ∙ y)))
+          go (otherSerial known z y other) = refl
+
+    -- a ping's reply drops nothing
+    ping-drops-none : byte bytes 2 ≡ 0 → takenDrops (takenOf (r .answer)) ≡ 0
+    unfolding reportFrom
+    ping-drops-none q = d .no-drops st k bytes r e (λ n number g. let z : _≡_ {A = ℕ} 0 0x83 = sym q ∙ g .byte2 in omega arith)
+
   -- a cancel leaves every battery
   cancel-keeps-batteries : (st : Station) → Reached st → (device byte2 byte3 : ℕ) (r : CancelResult) → Ensured st (cancel device byte2 byte3) (cancelStep (cancelOutcome r)) → (n : ℕ) → isPort n ≡ true → portFor (r .station) n .battery ≡ portFor st n .battery
   cancel-keeps-batteries st k device byte2 byte3 r e n h =
@@ -236,6 +272,13 @@ module _ (d : Demands) where
     device-2-returns : map callOf ns ≡ callsOf (remaining 2 (made st ms)) → compared 2 (remaining 2 (made st ms)) ≡ compared 2 (made st ns)
     device-2-returns = d .returns 2 refl st begins ms ns k l
 
+    -- and 255
+    receiver-holds : map callOf ns ≡ callsOf (remaining 255 (made st ms)) → view 255 (stationAfter st ms) ≡ view 255 (stationAfter st ns)
+    receiver-holds = d .holds 255 refl st begins ms ns k l
+
+    receiver-returns : map callOf ns ≡ callsOf (remaining 255 (made st ms)) → compared 255 (remaining 255 (made st ms)) ≡ compared 255 (made st ns)
+    receiver-returns = d .returns 255 refl st begins ms ns k l
+
     any-order : ((n : ℕ) → isDevice n ≡ true → callsOf (remaining n (made st ms)) ≡ callsOf (remaining n (made st ns))) → stationAfter st ms ≡ stationAfter st ns
     any-order = d .orders st begins ms ns k l
 
@@ -248,12 +291,23 @@ module _ (d : Demands) where
   radio-named st bytes r e kind start size q =
       d .struck st (take bytes) (takeStep bytes (takeOutcome r)) e ∙ ap (λ (a : answers.Answer). sentence (take bytes) (taken a)) q
 
-  -- for device 2 a call for 255 stays and one for device 3 does not; for 255 one for device 2 does not
+  -- for device 2 its own calls, the ticks and those for 255 stay, and one for device 3 does not; for 255 one for device 2 does not
   receiver-stays : (e : Entry) (es : List Entry) → e .label ≡ one 255 → remaining 2 (e ∷ es) ≡ e ∷ remaining 2 es
   receiver-stays e es q = d .left-in 2 e es (subst (Stays 2) (sym q) receiverCall)
 
+  own-stays : (e : Entry) (es : List Entry) → e .label ≡ one 2 → remaining 2 (e ∷ es) ≡ e ∷ remaining 2 es
+  own-stays e es q = d .left-in 2 e es (subst (Stays 2) (sym q) ownCall)
+
+  tick-stays : (e : Entry) (es : List Entry) → e .label ≡ all → remaining 2 (e ∷ es) ≡ e ∷ remaining 2 es
+  tick-stays e es q = d .left-in 2 e es (subst (Stays 2) (sym q) tickCall)
+
   device-3-struck : (e : Entry) (es : List Entry) → e .label ≡ one 3 → remaining 2 (e ∷ es) ≡ remaining 2 es
-  device-3-struck e es q = d .struck-out 2 e es (λ s. named-3 (subst (Stays 2) q s))
+  device-3-struck e es q =
+      d .struck-out 2 e es (λ s. named 2 3 (λ z. omega (arith, z)) (λ z. omega (arith, z)) (subst (Stays 2) q s))
+
+  device-2-struck : (e : Entry) (es : List Entry) → e .label ≡ one 2 → remaining 255 (e ∷ es) ≡ remaining 255 es
+  device-2-struck e es q =
+      d .struck-out 255 e es (λ s. named 255 2 (λ z. omega (arith, z)) (λ z. omega (arith, z)) (subst (Stays 255) q s))
 
   -- what is compared of a device's own call is its answer and every lent byte; of 255's the same but for the drop count; of a call for 255, for a device, its drop count; of a tick the port's count
   compared-whole : (r q : Returned) → comparedOf 2 (one 2) r ≡ comparedOf 2 (one 2) q → (r .answer ≡ q .answer) × ((r .read ≡ q .read) × (r .lent ≡ q .lent))
@@ -262,8 +316,8 @@ module _ (d : Demands) where
   compared-receiver : (r q : Returned) → comparedOf 255 (one 255) r ≡ comparedOf 255 (one 255) q → SameButDrops (r .answer) (q .answer) × ((r .read ≡ q .read) × (r .lent ≡ q .lent))
   compared-receiver = d .compares-receiver
 
-  compared-drops : (r q : Returned) (x y : ℕ) (a b : answers.About) → comparedOf 2 (one 255) r ≡ comparedOf 2 (one 255) q → r .answer ≡ taken (answers.reply x a) → q .answer ≡ taken (answers.reply y b) → byte (r .read) 4 ≡ 0x31 → (x ≡ y) × (r .lent ≡ q .lent)
-  compared-drops r q x y a b e f g h = let c = d .compares-drops 2 refl r q e in (c .0 x y a b f g h, c .1 .1)
+  compared-drops : (r q : Returned) (x y : ℕ) → comparedOf 2 (one 255) r ≡ comparedOf 2 (one 255) q → Drops 2 r x → Drops 2 q y → (x ≡ y) × (r .lent ≡ q .lent)
+  compared-drops r q x y e f g = let c = d .compares-drops 2 refl r q e in (c .0 x y f g, c .1 .1)
 
   compared-count : (o q : Outcome) (xs ys : List ℕ) → o .answer ≡ ticked xs → q .answer ≡ ticked ys → comparedOf 255 all (returned o) ≡ comparedOf 255 all (returned q) → getD xs 6 0 ≡ getD ys 6 0
   unfolding positionOf

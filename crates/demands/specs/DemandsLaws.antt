@@ -76,6 +76,7 @@ demands =
       at-most-one = λ st k bytes. complete .completes st k bytes .one;
       beside = λ st k bytes. complete .completes st k bytes .beside;
       serials = λ st k bytes r e. taken st k bytes r e .told;
+      no-drops = λ st k bytes r e. taken st k bytes r e .untold;
       changes = λ st k c o e n h. by-step (λ o. ChangesListed n c (o .answer) (view 255 st) (view n st) (view n (o .station))) e (complete .changes st k c n h);
       counts = λ st k c o e n h. by-step (λ o. EndsAt n c (o .answer) (view n st) (view n (o .station))) e (complete .ends st k c n h);
       begins = λ r e. subst Start (sym e) fresh;

@@ -114,11 +114,13 @@ pub record Completion (st : Station) (bytes : List ℕ) (answer : Answer) (next 
   -- a reply completes a request exactly then; an error, exactly then
   pub replies : (isReply answer ≡ true) ↔ Replies st bytes
   pub fails : (isFailure answer ≡ true) ↔ Fails st bytes
-  -- that one is ended, and no other place of any port changes
+  -- that one is ended, with those that are dropped, and no other place of any port changes
   pub ends : (n : ℕ) → isPort n ≡ true → (place : ℕ) → requestIn (portFor next n .places) place ≡ cond (endsIn st bytes n place) emptyPlace (requestIn (portFor st n .places) place)
   -- a HID++ report ends one at most on the port that it names
   pub one : isHidppRead (readRule bytes) ≡ true → (i j : ℕ) → endsIn st bytes (byte bytes 1) i ≡ true → endsIn st bytes (byte bytes 1) j ≡ true → i ≡ j
   -- a serial that it gives is told to its device
   pub told : isHidppRead (readRule bytes) ≡ true → (n number : ℕ) → Gives (portFor st 255) (reportFrom hidppStart bytes) bytes n number → Told (portFor st n) (portFor next n) number answer
+  -- an answer to a report that gives none drops none
+  pub untold : ((n number : ℕ) → ¬ Gives (portFor st 255) (reportFrom hidppStart bytes) bytes n number) → takenDrops answer ≡ 0
   -- on another port it ends all that wait where it gives another serial of that device, and none else
   pub beside : isHidppRead (readRule bytes) ≡ true → (n : ℕ) → isPort n ≡ true → ¬ (byte bytes 1 ≡ n) → (i : ℕ) → (endsIn st bytes n i ≡ true) ↔ (Swaps st bytes n × (isEmpty (requestIn (portFor st n .places) i) ≡ false))

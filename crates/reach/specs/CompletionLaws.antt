@@ -182,6 +182,23 @@ serial-places p number s i = go (p .paired) (isAnother (p .serial) number)
     go true true =
         fresh-empty 0 p (withSerial (withPairing (madeFresh p) (p .wpid) (p .reports)) (Known number)) refl i ∙ emptied (isEmpty (requestIn (p .places) i)) refl
 
+-- at its own port no report has a drop count of a reply
+hidpp-drops : {p : Port} {m : Message} {r : Result} → HidppCase p m r → takenDrops (r .answer) ≡ 0
+hidpp-drops (givesFailed h) = refl
+hidpp-drops (givesReply h) = refl
+hidpp-drops (givesStray h) = refl
+hidpp-drops (givesPlain h) = refl
+hidpp-drops (givesEvent h) = refl
+
+dj-drops-none : {p : Port} {r : Report} {bytes : List ℕ} {x : Result} → DjCase p r bytes x → takenDrops (x .answer) ≡ 0
+dj-drops-none (djRefused h) = refl
+dj-drops-none (radioTaken l u d) = refl
+dj-drops-none (unpairs e) = refl
+dj-drops-none (pairedSame e q) = refl
+dj-drops-none (pairedNew e q) = refl
+dj-drops-none (linkSet e u) = refl
+dj-drops-none (otherNotice l) = refl
+
 module _ (st : Station) (k : Reached st) (bytes : List ℕ) where
   places-of : (n : ℕ) → SoundPlaces (view n st .places)
   places-of n = k .each (positionOf n) (position-within n) .waiting
@@ -204,14 +221,15 @@ module _ (st : Station) (k : Reached st) (bytes : List ℕ) where
   Done = Completion st bytes
 
   -- nothing is taken
-  none-taken : (answer : Answer) → isReply answer ≡ false → isFailure answer ≡ false → isHidppRead (readRule bytes) ≡ false → ((n : ℕ) (p : Port) (r : Request) → readEnds (view (byte bytes 1) st) (readRule bytes) bytes n p r ≡ false) → Done answer st
-  none-taken answer a b e f =
+  none-taken : (answer : Answer) → takenDrops answer ≡ 0 → isReply answer ≡ false → isFailure answer ≡ false → isHidppRead (readRule bytes) ≡ false → ((n : ℕ) (p : Port) (r : Request) → readEnds (view (byte bytes 1) st) (readRule bytes) bytes n p r ≡ false) → Done answer st
+  none-taken answer z a b e f =
       record {
         replies = (λ q. absurd (false≢true (sym a ∙ q)), λ q. absurd (true≢false (sym (q .0) ∙ e)));
         fails = (λ q. absurd (false≢true (sym b ∙ q)), λ q. absurd (true≢false (sym (q .0) ∙ e)));
         ends = λ n h i. simp (f n (view n st) (requestIn (view n st .places) i));
         one = λ q. absurd (true≢false (sym q ∙ e));
         told = λ q. absurd (true≢false (sym q ∙ e));
+        untold = λ n. z;
         beside = λ q. absurd (true≢false (sym q ∙ e));
       }
 
@@ -353,9 +371,20 @@ module _ (st : Station) (k : Reached st) (bytes : List ℕ) where
   hidpp-answer x noSerial = (refl, refl)
   hidpp-answer x (serialOf device number) = drops-reply (serialRule (view device st) number .dropped) (x .answer)
 
-  hidpp-done : {x : Result} → readRule bytes ≡ reading.hidpp report → isPort (byte bytes 1) ≡ true → HidppAt own message x → Done (alsoAt st given (storedAt st (positionOf (byte bytes 1)) x) .answer) (alsoAt st given (storedAt st (positionOf (byte bytes 1)) x) .station)
+  -- where it gives no serial, it has none
+  hidpp-untold : (x : Result) → takenDrops (x .answer) ≡ 0 → ((n number : ℕ) → ¬ Gives (view 255 st) report bytes n number) → takenDrops (alsoAt st given (storedAt st (positionOf (byte bytes 1)) x) .answer) ≡ 0
+  unfolding reportFrom
+  hidpp-untold x none n = go given refl
+    where
+      go : (g : Given) → given ≡ g → takenDrops (alsoAt st g (storedAt st (positionOf (byte bytes 1)) x) .answer) ≡ 0
+      go noSerial q = none
+      go (serialOf device number) q =
+          let g = given-exactly own report bytes device number .0 q in
+          absurd (n device number (subst (λ (i : ℕ). Gives (view i st) report bytes device number) (g .receiver) g))
+
+  hidpp-done : {x : Result} → readRule bytes ≡ reading.hidpp report → isPort (byte bytes 1) ≡ true → HidppAt own message x → takenDrops (x .answer) ≡ 0 → Done (alsoAt st given (storedAt st (positionOf (byte bytes 1)) x) .answer) (alsoAt st given (storedAt st (positionOf (byte bytes 1)) x) .station)
   unfolding messageOf reportFrom
-  hidpp-done {x} e d h =
+  hidpp-done {x} e d h none =
       let read : isHidppRead (readRule bytes) ≡ true = ap isHidppRead e in
       let a = hidpp-answer x given in
       record {
@@ -364,12 +393,13 @@ module _ (st : Station) (k : Reached st) (bytes : List ℕ) where
         ends = λ n g i. subst (λ (y : Read). requestIn (view n (alsoAt st given (storedAt st (positionOf (byte bytes 1)) x) .station) .places) i ≡ cond (readEnds own y bytes n (view n st) (requestIn (view n st .places) i)) emptyPlace (requestIn (view n st .places) i)) (sym e) (hidpp-places d h given refl n g i);
         one = λ q i j y z. hidpp-one i j (subst (λ (t : Read). readEnds own t bytes (byte bytes 1) own (requestIn (own .places) i) ≡ true) e y) (subst (λ (t : Read). readEnds own t bytes (byte bytes 1) own (requestIn (own .places) j) ≡ true) e z);
         told = λ q n number g. hidpp-told d h n number g;
+        untold = λ n. hidpp-untold x none n;
         beside = λ q n g differs i. subst (λ (t : Read). (readEnds own t bytes n (view n st) (requestIn (view n st .places) i) ≡ true) ↔ (Swaps st bytes n × (isEmpty (requestIn (view n st .places) i) ≡ false))) (sym e) (hidpp-beside n differs i);
       }
 
-  dj-done : {x : Result} → readRule bytes ≡ reading.dj (reportFrom djStart bytes) → isPort (byte bytes 1) ≡ true → DjAt (view (byte bytes 1) st) (byte bytes 2) bytes x → Done (x .answer) (withPort st (positionOf (byte bytes 1)) (x .port))
+  dj-done : {x : Result} → readRule bytes ≡ reading.dj (reportFrom djStart bytes) → isPort (byte bytes 1) ≡ true → DjAt (view (byte bytes 1) st) (byte bytes 2) bytes x → takenDrops (x .answer) ≡ 0 → Done (x .answer) (withPort st (positionOf (byte bytes 1)) (x .port))
   unfolding reportFrom
-  dj-done {x} e d h =
+  dj-done {x} e d h none =
       let read : isHidppRead (readRule bytes) ≡ false = ap isHidppRead e in
       record {
         replies = (λ q. absurd (false≢true (sym (h .reply) ∙ q)), λ q. absurd (true≢false (sym (q .0) ∙ read)));
@@ -377,19 +407,20 @@ module _ (st : Station) (k : Reached st) (bytes : List ℕ) where
         ends = λ n g i. subst (λ (y : Read). requestIn (view n (withPort st (positionOf (byte bytes 1)) (x .port)) .places) i ≡ cond (readEnds (view (byte bytes 1) st) y bytes n (view n st) (requestIn (view n st .places) i)) emptyPlace (requestIn (view n st .places) i)) (sym e) (ends-at (byte bytes 1) n (x .port) d g (λ j p r. makesFresh p (byte bytes 2) bytes && not (isEmpty r)) (h .place) i);
         one = λ q. absurd (true≢false (sym q ∙ read));
         told = λ q. absurd (true≢false (sym q ∙ read));
+        untold = λ n. none;
         beside = λ q. absurd (true≢false (sym q ∙ read));
       }
 
   take-done : (x : Read) → readRule bytes ≡ x → ReadFits bytes x → Done (takeBy x bytes st .answer) (takeBy x bytes st .station)
   unfolding takeBy reportFrom
   take-done (reading.refused number) e n =
-      none-taken (refused number) refl refl (ap isHidppRead e) (λ i p r. ap (λ (y : Read). readEnds (view (byte bytes 1) st) y bytes i p r) e)
+      none-taken (refused number) refl refl refl (ap isHidppRead e) (λ i p r. ap (λ (y : Read). readEnds (view (byte bytes 1) st) y bytes i p r) e)
   take-done (reading.emptyList r) e n =
-      none-taken (notice emptyList) refl refl (ap isHidppRead e) (λ i p q. ap (λ (y : Read). readEnds (view (byte bytes 1) st) y bytes i p q) e)
+      none-taken (notice emptyList) refl refl refl (ap isHidppRead e) (λ i p q. ap (λ (y : Read). readEnds (view (byte bytes 1) st) y bytes i p q) e)
   take-done (reading.hidpp r) e n =
-      subst (λ (y : Report). readRule bytes ≡ reading.hidpp y → isPort (y .device) ≡ true → Done (takeBy (reading.hidpp y) bytes st .answer) (takeBy (reading.hidpp y) bytes st .station)) (sym (n .1 .1)) (λ z d. hidpp-done z d (hidpp-at _ _ (places-of (byte bytes 1)) (hidpp-case _ (places-of (byte bytes 1) .all) message))) e (n .0)
+      subst (λ (y : Report). readRule bytes ≡ reading.hidpp y → isPort (y .device) ≡ true → Done (takeBy (reading.hidpp y) bytes st .answer) (takeBy (reading.hidpp y) bytes st .station)) (sym (n .1 .1)) (λ z d. let c = hidpp-case own (places-of (byte bytes 1) .all) message in hidpp-done z d (hidpp-at _ _ (places-of (byte bytes 1)) c) (hidpp-drops c)) e (n .0)
   take-done (reading.dj r) e n =
-      subst (λ (y : Report). readRule bytes ≡ reading.dj y → isPort (y .device) ≡ true → Done (takeDj (view (y .device) st) y bytes .answer) (withPort st (positionOf (y .device)) (takeDj (view (y .device) st) y bytes .port))) (sym (n .1 .1)) (λ z d. dj-done z d (dj-at _ (reportFrom djStart bytes) bytes (places-of (byte bytes 1)) (dj-case _ (reportFrom djStart bytes) bytes))) e (dj-port (r .device) (r .byte2) (n .1 .0))
+      subst (λ (y : Report). readRule bytes ≡ reading.dj y → isPort (y .device) ≡ true → Done (takeDj (view (y .device) st) y bytes .answer) (withPort st (positionOf (y .device)) (takeDj (view (y .device) st) y bytes .port))) (sym (n .1 .1)) (λ z d. let c = dj-case own (reportFrom djStart bytes) bytes in dj-done z d (dj-at _ (reportFrom djStart bytes) bytes (places-of (byte bytes 1)) c) (dj-drops-none c)) e (dj-port (r .device) (r .byte2) (n .1 .0))
 
   pub completion : Completion st bytes (takeRule st bytes .answer) (takeRule st bytes .station)
   unfolding takeRule

@@ -14,7 +14,7 @@ use Rattle.port.specs.Places.{isEmpty, matches, sumOver, countWaiting}
 use Rattle.port.specs.Ticks.{withTicks}
 use Rattle.port.specs.Waiting as waiting
 use Rattle.port.specs.Answers.{Answer, refused, reply, stray, plain, event, failed, radio, notice, Notice, unpaired, paired, emptyList, link, other}
-use Rattle.serial.specs.Serials.{deviceFor}
+use Rattle.serial.specs.Serials.{parameterFor}
 use Rattle.request.specs.Requesting.{waitingRequest}
 use Rattle.station.specs.Stations.{positionOf}
 use Rattle.sequence.specs.Steps.{Call, take, request, cancel, tick, write, CallAnswer, taken, written, cancelled, ticked}
@@ -51,11 +51,12 @@ noticeEnding emptyList = nothing
 noticeEnding (link port up) = nothing
 noticeEnding (other port kind) = nothing
 
--- a reply ends one request on its own port; its drop count is that of the device which the report's first parameter is for
+-- a reply ends one request on its own port; on the device whose parameter is the report's first one it drops as many as it says
 abbrev pub takeEnding : ℕ → List ℕ → Answer → Ending
 takeEnding n bytes (refused number) = nothing
 takeEnding n bytes (reply count a) =
-    cond (eqb (a .port) n) (one byReply (a .port) (a .byte2) (a .byte3)) (dropped (deviceFor (byte bytes 4)) count)
+    cond (eqb (a .port) n) (one byReply (a .port) (a .byte2) (a .byte3))
+    (cond (eqb (byte bytes 4) (parameterFor n)) (dropped n count) nothing)
 takeEnding n bytes (stray a) = nothing
 takeEnding n bytes (plain a) = nothing
 takeEnding n bytes (event a) = nothing

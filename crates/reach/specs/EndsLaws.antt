@@ -9,7 +9,7 @@ use lib.ListN.{length, set}
 use lib.Seq.{getD-set-same, getD-set-other}
 use lib.Dec.{eqb}
 use borrow.Author.Tests.{eqb-true, eq-eqb, ne-eqb, not-true, not-false}
-use Rattle.report.specs.ChoicesLaws.{both}
+use Rattle.report.specs.ChoicesLaws.{by-case, both}
 use Rattle.report.specs.Sizes.{byte}
 use Rattle.report.specs.Reading.{Report}
 use Rattle.port.specs.declared.Port.{Port}
@@ -21,7 +21,7 @@ use Rattle.port.specs.Waiting.{waitingAt, endedAt}
 use Rattle.port.specs.Answers.{reply, Result}
 use Rattle.hidpp.specs.declared.Message.{Message}
 use Rattle.hidpp.specs.HidppTaking.{carried, named2, named3, code}
-use Rattle.serial.specs.Serials.{deviceFor, SerialResult}
+use Rattle.serial.specs.Serials.{parameterFor, SerialResult}
 use Rattle.reach.specs.ListsLaws.{found-passes, sum-set, each-replicate}
 use Rattle.reach.specs.Sound.{SoundPlaces}
 use Rattle.reach.specs.SoundLaws.{empty-fails, reply-records, error-records, event-records}
@@ -282,7 +282,7 @@ module _ (p : Port) (s : SoundPlaces (p .places)) where
 -- on another port
 pub hidpp-apart : (n : ℕ) (bytes : List ℕ) {p : Port} {m : Message} {r : Result} → HidppCase p m r → eqb (m .device .0) n ≡ false → Elsewhere n (takeEnding n bytes (r .answer))
 hidpp-apart n bytes (givesFailed h) e = e
-hidpp-apart n bytes (givesReply h) e = simp e (and-false (eqb (deviceFor (byte bytes 4)) n))
+hidpp-apart n bytes (givesReply h) e = simp e (by-case (Elsewhere n) (eqb (byte bytes 4) (parameterFor n)) (λ z. and-false (eqb n n)) (λ z. tt))
 hidpp-apart n bytes (givesStray h) e = tt
 hidpp-apart n bytes (givesPlain h) e = tt
 hidpp-apart n bytes (givesEvent h) e = tt

@@ -23,9 +23,9 @@ use Rattle.port.specs.Ticks.{afterTick, oneIfEnding, tickRule}
 use Rattle.port.specs.Answers.{Answer, reply, Result}
 use Rattle.hidpp.specs.declared.Message.{Message}
 use Rattle.hidpp.specs.HidppTaking.{messageOf, carried, isError}
-use Rattle.serial.specs.Serials.{deviceFor, Given, serialOf, givenBy, SerialResult}
+use Rattle.serial.specs.Serials.{parameterFor, Given, serialOf, givenBy, SerialResult}
 use Rattle.serial.specs.Giving.{Gives}
-use Rattle.serial.specs.GivingLaws.{parameter-of, given-exactly}
+use Rattle.serial.specs.GivingLaws.{given-exactly}
 use Rattle.request.specs.Requesting.{RequestAt, waitingRequest}
 use Rattle.station.specs.declared.Station.{Station}
 use Rattle.station.specs.Stations.{portCount, positionOf, freshStation, noPort, portAt, withPort}
@@ -248,9 +248,6 @@ module _ (st : Station) (k : Reached st) where
     fits : ReadFits bytes (reading.hidpp r)
     fits = subst (ReadFits bytes) e (read-fits bytes)
 
-    is-device : deviceFor (byte bytes 4) ≡ device
-    is-device = parameter-of device (byte bytes 4) (g .named) (g .repeated) .1
-
     apart : eqb (r .device) device ≡ false
     apart =
         ne-eqb (r .device) device (λ q. let z : device ≡ 255 = sym q ∙ g .receiver in omega (arith, device-number device (g .named) .1))
@@ -264,11 +261,12 @@ module _ (st : Station) (k : Reached st) where
 
     drops-there : takeEnding device bytes answer ≡ dropped device (x .dropped)
     unfolding messageOf
-    drops-there = simp apart (ap (λ (i : ℕ). dropped i (x .dropped)) is-device)
+    drops-there = simp (apart, eq-eqb (byte bytes 4) (parameterFor device) (g .repeated))
 
     drops-elsewhere : (n : ℕ) → eqb device n ≡ false → eqb (r .device) n ≡ false → Elsewhere n (takeEnding n bytes answer)
     unfolding messageOf
-    drops-elsewhere n p q = simp (q, is-device, p)
+    drops-elsewhere n p q =
+        simp (q, ne-eqb (byte bytes 4) (parameterFor n) (λ z. eqb-false device n p (let same : 0x30 + device - 1 ≡ 0x30 + n - 1 = sym (g .repeated) ∙ z in omega arith))) tt
 
     on-serial : Steps st (take bytes) (takeStep bytes (record { answer = answer; station = withPort (withPort st (positionOf (r .device)) (repliedPort (view (r .device) st) message)) (positionOf device) (x .port) }))
     unfolding messageOf

@@ -23,7 +23,7 @@ View = Port
 abbrev pub view : ℕ → Station → View
 view n st = portFor st n
 
--- strike out every call for another port or for none; keep the ticks, and for a device the calls for 255
+-- strike out every call for another device or for none; keep the ticks, and the calls for 255
 unfoldable pub remaining : ℕ → List Entry → List Entry
 remaining n [] = []
 remaining n (e ∷ es) = cond (isFor n (e .label)) (e ∷ remaining n es) (remaining n es)

@@ -43,10 +43,15 @@ abbrev pub ComparesReceiver : Type 0
 ComparesReceiver =
     (r q : Returned) → comparedOf 255 (one 255) r ≡ comparedOf 255 (one 255) q → SameButDrops (r .answer) (q .answer) × SameLent r q
 
--- of a call for 255, for a device, the drop count of a reply whose first parameter is for that device, and every lent byte
+-- a device's drop count: that of a reply to a report whose first parameter is for the device, and 0 in every other answer
+pub data Drops (n : ℕ) (r : Returned) : ℕ → Type 0 where
+  ofReply : (x : ℕ) (a : About) → r .answer ≡ taken (reply x a) → byte (r .read) 4 ≡ 0x30 + n - 1 → Drops n r x
+  ofOther : ((x : ℕ) (a : About) → r .answer ≡ taken (reply x a) → ¬ (byte (r .read) 4 ≡ 0x30 + n - 1)) → Drops n r 0
+
+-- of a call for 255, for a device, its drop count and every lent byte
 abbrev pub ComparesDrops : Type 0
 ComparesDrops =
-    (n : ℕ) → isDevice n ≡ true → (r q : Returned) → comparedOf n (one 255) r ≡ comparedOf n (one 255) q → ((x y : ℕ) (a b : About) → r .answer ≡ taken (reply x a) → q .answer ≡ taken (reply y b) → byte (r .read) 4 ≡ 0x30 + n - 1 → x ≡ y) × SameLent r q
+    (n : ℕ) → isDevice n ≡ true → (r q : Returned) → comparedOf n (one 255) r ≡ comparedOf n (one 255) q → ((x y : ℕ) → Drops n r x → Drops n q y → x ≡ y) × SameLent r q
 
 -- two orders in which each device's calls, the ticks and all calls for 255 keep one sequence end in the same station
 abbrev pub OrdersAgree : Type 0

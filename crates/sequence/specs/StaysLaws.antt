@@ -15,9 +15,9 @@ use Rattle.serial.specs.Serials.{parameterFor}
 use Rattle.sequence.specs.Steps.{Call, CallAnswer, taken, written, cancelled, ticked, Returned}
 use Rattle.sequence.specs.Targets.{Target, none, one, all, isFor}
 use Rattle.sequence.specs.Transcripts.{Entry, callsOf}
-use Rattle.sequence.specs.Remaining.{remaining, withDropsIn, dropsFor, whole, drops, ownReturned}
+use Rattle.sequence.specs.Remaining.{remaining, withDropsIn, dropsIn, dropsFor, whole, drops, ownReturned}
 use Rattle.sequence.specs.IndependenceLaws.{orders}
-use Rattle.sequence.specs.Stays.{Stays, ownCall, tickCall, receiverCall, Kept, keptNone, keptCall, struckCall, SameButDrops, sameAnswer, sameReply, ComparesOwn, ComparesReceiver, ComparesDrops, OrdersAgree}
+use Rattle.sequence.specs.Stays.{Stays, ownCall, tickCall, receiverCall, Kept, keptNone, keptCall, struckCall, SameButDrops, sameAnswer, sameReply, Drops, ofReply, ofOther, ComparesOwn, ComparesReceiver, ComparesDrops, OrdersAgree}
 
 -- exactly those calls stay
 or-true : (b : Bool) → (b || true) ≡ true
@@ -115,16 +115,32 @@ compares-receiver r q e =
 same-drops : {m n : ℕ} {a b c d : List ℕ} → drops m a c ≡ drops n b d → (m ≡ n) × ((a ≡ b) × (c ≡ d))
 same-drops e = (cc e, (cc e, cc e))
 
+-- an answer that is no reply has none
+none-dropped : (x : CallAnswer) → ((m : ℕ) (a : answers.About) → ¬ (x ≡ taken (answers.reply m a))) → dropsIn x ≡ 0
+none-dropped (taken (answers.refused number)) h = refl
+none-dropped (taken (answers.reply m a)) h = absurd (h m a refl)
+none-dropped (taken (answers.stray a)) h = refl
+none-dropped (taken (answers.plain a)) h = refl
+none-dropped (taken (answers.event a)) h = refl
+none-dropped (taken (answers.failed a code kind)) h = refl
+none-dropped (taken (answers.radio kind start size)) h = refl
+none-dropped (taken (answers.notice n)) h = refl
+none-dropped (written a) h = refl
+none-dropped (cancelled a) h = refl
+none-dropped (ticked counts) h = refl
+
+drops-so : (n : ℕ) (r : Returned) {x : ℕ} → Drops n r x → dropsFor n r ≡ x
+drops-so n r (ofReply x a e h) = cc (eq-eqb (byte (r .read) 4) (parameterFor n) h, e)
+drops-so n r (ofOther h) = go (eqb (byte (r .read) 4) (parameterFor n)) refl
+  where
+    go : (b : Bool) → eqb (byte (r .read) 4) (parameterFor n) ≡ b → dropsFor n r ≡ 0
+    go true e =
+        let first : byte (r .read) 4 ≡ parameterFor n = eqb-true _ _ e in
+        simp e (none-dropped (r .answer) (λ m a q. h m a q first))
+    go false e = simp e
+
 pub compares-drops : ComparesDrops
 compares-drops n d r q e =
     let device : eqb 255 n ≡ false = ne-eqb 255 n (omega (arith, device-number n d .1)) in
     let same = same-drops (simp device at e) in
-    (λ x y a b f g h. told x y a b f g h (same .0) (same .1 .0), same .1)
-  where
-    told : (x y : ℕ) (a b : answers.About) → r .answer ≡ taken (answers.reply x a) → q .answer ≡ taken (answers.reply y b) → byte (r .read) 4 ≡ 0x30 + n - 1 → dropsFor n r ≡ dropsFor n q → r .read ≡ q .read → x ≡ y
-    told x y a b f g h same read =
-        let first : eqb (byte (r .read) 4) (parameterFor n) ≡ true = eq-eqb _ _ h in
-        let second : eqb (byte (q .read) 4) (parameterFor n) ≡ true = eq-eqb _ _ (ap (λ (l : List ℕ). byte l 4) (sym read) ∙ h) in
-        let left : dropsFor n r ≡ x = cc (first, f) in
-        let right : dropsFor n q ≡ y = cc (second, g) in
-        sym left ∙ same ∙ right
+    (λ x y f g. sym (drops-so n r f) ∙ same .0 ∙ drops-so n q g, same .1)

@@ -24,7 +24,7 @@ device-of first e =
     let hi : first ≤ 0x35 = leb-true _ _ (h .1) in
     (ap (λ (b : Bool). b && leb (deviceFor first) deviceCount) (le-leb 1 (deviceFor first) (omega arith)) ∙ le-leb (deviceFor first) deviceCount (omega arith), omega arith)
 
-pub parameter-of : (device first : ℕ) → isDevice device ≡ true → first ≡ 0x30 + device - 1 → (isForDevice first ≡ true) × (deviceFor first ≡ device)
+parameter-of : (device first : ℕ) → isDevice device ≡ true → first ≡ 0x30 + device - 1 → (isForDevice first ≡ true) × (deviceFor first ≡ device)
 parameter-of device first e q =
     let h = both (leb 1 device) (leb device deviceCount) e in
     let lo : 1 ≤ device = leb-true _ _ (h .0) in

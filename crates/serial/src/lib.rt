@@ -8,9 +8,7 @@ use report::Device;
 use report::FeatureIndex;
 use report::HidppReport;
 
-// Byte 2 of a request that reads a long register, and byte 3, the register.
-const LONG_REGISTER: u8 = 0x83;
-
+// Byte 3 of a request for a serial: the register.
 const SERIAL_REGISTER: u8 = 0xb5;
 
 // The first parameter for device 1, and for the last.
@@ -40,7 +38,7 @@ fn is_report(h: HidppReport) -> bool
     if h.id != report::HIDPP_LONG {
         return false;
     }
-    if h.byte2.0 != LONG_REGISTER {
+    if h.byte2.0 != frame::GET_LONG_REGISTER {
         return false;
     }
     h.byte3 == SERIAL_REGISTER
@@ -51,7 +49,11 @@ fn is_asked_with(port: Port, first: u8) -> bool
     ensures { λ r. ⌜ r ≡ isAskedWith port first ⌝ }
 {
     let places = port.places;
-    let place = port::first_match(places, FeatureIndex(LONG_REGISTER), SERIAL_REGISTER);
+    let place = port::first_match(
+        places,
+        FeatureIndex(frame::GET_LONG_REGISTER),
+        SERIAL_REGISTER,
+    );
     if place < port::PLACES {
         let request = port::request_in(places, place);
         return request.first.0 == first;

@@ -136,7 +136,7 @@ impl Station {
                         answer,
                         station: self,
                     },
-                    // A serial goes to its device's port.
+                    // A serial goes to its device's port. Written out for speed: handed to a function and back, the station is copied (docs/PERFORMANCE.md, "What a serial costs").
                     Given::Serial { device, number } => {
                         let beside = position_of(device);
                         let kept = serial::keep(self.ports[beside], number);
