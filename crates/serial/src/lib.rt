@@ -49,11 +49,8 @@ fn is_asked_with(port: Port, first: u8) -> bool
     ensures { λ r. ⌜ r ≡ isAskedWith port first ⌝ }
 {
     let places = port.places;
-    let place = port::first_match(
-        places,
-        FeatureIndex(frame::GET_LONG_REGISTER),
-        SERIAL_REGISTER,
-    );
+    let byte2 = FeatureIndex(frame::GET_LONG_REGISTER);
+    let place = port::first_match(places, byte2, SERIAL_REGISTER);
     if place < port::PLACES {
         let request = port::request_in(places, place);
         return request.first.0 == first;
