@@ -18,7 +18,7 @@ use Rattle.encoded.specs.EncodedRuns.{AllFit, ReadsBack, rowsSize, ran}
 use Rattle.encoded.specs.EncodedContracts.{outcomeOf, EncodedPromise}
 
 pub record Demand3 : Type 0 where
-  -- for every list of calls and each of the seven ports: strike out every call for another port or for none, keep the ticks and, for a device, every call for 255; the port then holds what it holds after the full run, and each call left has the same answer and leaves the same lent bytes: of a tick that port's count; of a call for 255, for a device that device's drop count and the lent bytes, and for 255 itself all but the drop count
+  -- for every list of calls and each of the seven ports: strike out every call for another device or for none, keep the ticks and, for a device, every call for 255; the port then holds what it holds after the full run, and each call left has the same answer and leaves the same lent bytes: of a tick that port's count; of a call for 255, for a device that device's drop count and the lent bytes, and for 255 itself all but the drop count
   pub alone : (n : ℕ) → isPort n ≡ true → (st : Station) → Start st → (cs : List Call) → ports.Alone n st cs
   -- two orders of calls in which each device has its own calls, the ticks and all calls for 255 in one sequence end in the same station
   pub orders : (st : Station) → Start st → (cs ds : List Call) → ports.SameOrders st cs ds → run st cs ≡ run st ds

@@ -25,7 +25,7 @@ use Rattle.reach.specs.Fields.{ChangesListed}
 use Rattle.reach.specs.Completion.{Completion}
 
 pub record Complete : Type 0 where
-  -- every station that calls reach: waiting requests differ in bytes 2 and 3, and their byte 2 is 0x00 to 0x3F or 0x80 to 0x83; port 255 is not paired, indexes are at most 63, at most 255 ticks are left, an empty place is as fresh, and no port, place or index is missing
+  -- every station that calls reach: waiting requests differ in bytes 2 and 3, and their byte 2 is 0x00 to 0x3F or 0x80 to 0x83; port 255 is not paired, no serial is known of what is not paired, indexes are at most 63, at most 255 ticks are left, an empty place is as fresh, and no port, place or index is missing
   pub reached : (st : Station) → Start st → (cs : List Call) → Reached (run st cs)
   -- any call on any station whose ports have their places: one outcome, of one case; a refusal with each number exactly when its row of the table holds
   pub cases : (st : Station) → AllPlaced st → (c : Call) → ByCases st c

@@ -1,4 +1,4 @@
--- Document 01, "Writing", "Taking a HID++ report" and "Taking a DJ report": what answers say of the requests that ended, one answer for each way.
+-- Document 01, "Writing", "Taking a HID++ report" and "Taking a DJ report", and document 02, Ask 1: what answers say of the requests that ended, one answer for each way.
 use Prim.Native.Nat.{ℕ, _+_}
 use mathlib.Core.Path.{_≡_, refl, sym, _∙_, ap}
 use mathlib.Core.Bool.{false, true≢false}

@@ -1,4 +1,4 @@
--- Document 01, "Ports and their records", "Refusal numbers" (5, 9 and 11) and "Writing": what holds on every station that calls reach.
+-- Document 01, "Ports and their records", "Refusal numbers" (5, 9 and 11) and "Writing", and document 02, Ask 1: what holds on every station that calls reach.
 use Prim.Native.Nat.{ℕ, _≤_, _<_}
 use mathlib.Core.Path.{_≡_}
 use mathlib.Core.Bool.{Bool, true, false}
