@@ -64,7 +64,7 @@ pub record Demands : Type 0 where
   pub beside : (st : Station) → Reached st → (bytes : List ℕ) → isHidppRead (readRule bytes) ≡ true → (n : ℕ) → isPort n ≡ true → ¬ (byte bytes 1 ≡ n) → (i : ℕ) → (endsIn st bytes n i ≡ true) ↔ (Swaps st bytes n × (isEmpty (requestIn (portFor st n .places) i) ≡ false))
   -- A long reply on port 255 to the request for register B5 that waits with first parameter 0x30 + device − 1, with the same first parameter (`Gives`), gives that device's serial: where the device is paired, the port has it, and where a different one was known, the port is first made fresh but for pairing, WPID and bitfield; the answer counts the requests dropped so
   pub serials : (st : Station) → Reached st → (bytes : List ℕ) (r : TakeResult) → Ensured st (take bytes) (takeStep bytes (takeOutcome r)) → isHidppRead (readRule bytes) ≡ true → (n number : ℕ) → Gives (portFor st 255) (reportFrom hidppStart bytes) bytes n number → Told (portFor st n) (portFor (r .station) n) number (takenOf (r .answer))
-  -- Every other answer drops none
+  -- Every other reply drops none
   pub no-drops : (st : Station) → Reached st → (bytes : List ℕ) (r : TakeResult) → Ensured st (take bytes) (takeStep bytes (takeOutcome r)) → ((n number : ℕ) → ¬ Gives (portFor st 255) (reportFrom hidppStart bytes) bytes n number) → takenDrops (takenOf (r .answer)) ≡ 0
   -- Records change only as documents 01 and 02 list: of every port, by every call, a field that is not listed stays
   pub changes : (st : Station) → Reached st → (c : Call) (o : Outcome) → Ensured st c o → (n : ℕ) → isPort n ≡ true → ChangesListed n c (o .answer) (portFor st 255) (portFor st n) (portFor (o .station) n)
