@@ -269,7 +269,7 @@ function keep_alive(timeout) {
 
 function dropped(answer,    n) {
     n = value(answer, "dropped")
-    return n == 0 ? "no request waited" : count(n, "waiting request") " dropped"
+    return n == 0 ? "no request dropped" : count(n, "waiting request") " dropped"
 }
 
 function battery(level, next_level, state) {
