@@ -78,42 +78,41 @@ fn run_file(file: &OsStr) -> Result<ExitCode, String> {
         "malformed {}, no room {}, rows by kind {:?}, dropped by replies {}",
         tally.malformed, tally.no_room, tally.kinds, tally.dropped
     );
-    Ok(if tally.is_complete() {
-        ExitCode::SUCCESS
-    } else {
-        ExitCode::FAILURE
-    })
+    Ok(status(tally.is_complete()))
 }
 
 fn count(file: &OsStr) -> Result<ExitCode, String> {
     let tally =
         Tally::read(open(file)?).map_err(|error| failed(&file.to_string_lossy(), &error))?;
-    let mut output = output();
-    tally
-        .print(&mut output)
-        .and_then(|()| output.flush())
-        .map_err(|error| failed("standard output", &error))?;
-    Ok(if tally.is_complete() {
-        ExitCode::SUCCESS
-    } else {
-        ExitCode::FAILURE
-    })
+    show(|output| tally.print(output), tally.is_complete())
 }
 
 fn count_serials(file: &OsStr) -> Result<ExitCode, String> {
     let tally = serials::Tally::read(open(file)?).map_err(|failure| match failure {
         Failure::Input(error) | Failure::Output(error) => failed(&file.to_string_lossy(), &error),
     })?;
+    show(|output| tally.print(output), tally.is_complete())
+}
+
+/// Prints what was counted.
+fn show(
+    print: impl FnOnce(&mut BufWriter<io::StdoutLock<'static>>) -> io::Result<()>,
+    is_complete: bool,
+) -> Result<ExitCode, String> {
     let mut output = output();
-    tally
-        .print(&mut output)
+    print(&mut output)
         .and_then(|()| output.flush())
         .map_err(|error| failed("standard output", &error))?;
-    Ok(if tally.is_complete() {
+    Ok(status(is_complete))
+}
+
+/// A count in which something never occurs is a failure.
+fn status(is_complete: bool) -> ExitCode {
+    if is_complete {
         ExitCode::SUCCESS
     } else {
         ExitCode::FAILURE
-    })
+    }
 }
 
 fn output() -> BufWriter<io::StdoutLock<'static>> {
