@@ -1,4 +1,4 @@
--- Document 01, "Taking a HID++ report", at the port that the report names.
+-- Document 01, "Taking a HID++ report", with document 02, Ask 2, at the port that the report names.
 use Prim.Native.Nat.{ℕ, _+_}
 use mathlib.Core.Bool.{Bool, false, cond, _&&_, _||_}
 use mathlib.Core.List.{List}
@@ -13,6 +13,7 @@ use Rattle.port.specs.Records.{requestIn}
 use Rattle.port.specs.Waiting.{waitingAt, isFound, endedAt}
 use Rattle.port.specs.Answers.{About, error1, error2, Answer, reply, stray, plain, event, failed, Result}
 use Rattle.hidpp.specs.declared.Message.{Message}
+use Rattle.hidpp.specs.Matching.{answeredAt}
 use Rattle.hidpp.specs.HidppRecords.{afterReply, afterError, afterEvent}
 
 -- a parameter, counted from 0
@@ -99,10 +100,14 @@ unaskedRule p m =
     (cond (isFeature (m .byte2 .0)) (featureRule p m)
     (unchanged (carried stray m) p)))
 
+-- no request is answered, but one with these bytes 2 and 3 may wait: a ping with another third parameter. Then the report is stray, whatever the version
+unfoldable pub unansweredRule : Port → Message → Result
+unansweredRule p m =
+    cond (isFound (waitingAt p (m .byte2 .0) (m .byte3))) (unchanged (carried stray m) p) (unaskedRule p m)
+
 -- in this order
 unfoldable pub takeHidpp : Port → Message → Result
 takeHidpp p m =
     cond (isError (m .byte2 .0)) (errorRule p m)
-    (cond (isFound (waitingAt p (m .byte2 .0) (m .byte3)))
-    (replyRule p m (waitingAt p (m .byte2 .0) (m .byte3)))
-    (unaskedRule p m))
+    (cond (isFound (answeredAt p m)) (replyRule p m (answeredAt p m))
+    (unansweredRule p m))

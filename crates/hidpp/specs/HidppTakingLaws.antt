@@ -1,23 +1,26 @@
 -- Laws of taking a HID++ report: the parts that a program makes one by one are those of the rules.
 use Prim.Native.Nat.{ℕ, _<_, _≤_}
-use mathlib.Core.Path.{_≡_, refl}
-use mathlib.Core.Bool.{true}
+use mathlib.Core.Path.{_≡_, refl, _∙_, ap}
+use mathlib.Core.Bool.{Bool, true, false, _&&_}
 use native.Mathlib.Omega.{arith}
 use borrow.Author.Tests.{lt-ltb, le-ltb, le-leb, lt-leb}
 use lib.Dec.{leb}
 use Rattle.report.specs.ChoicesLaws.{by-case}
 use Rattle.port.specs.declared.Port.{Port}
+use Rattle.port.specs.declared.Request.{Request}
 use Rattle.port.specs.declared.answer.About as program
 use Rattle.port.specs.declared.answer.ErrorKind.{ErrorKind}
 use Rattle.port.specs.declared.answer.Taken.the-variants.{Failed}
 use Rattle.port.specs.Records.{placeCount}
+use Rattle.port.specs.Places.{matches, firstAt}
 use Rattle.port.specs.WaitingLaws.{is-found}
-use Rattle.port.specs.Waiting.{waitingAt, endedAt}
+use Rattle.port.specs.Waiting.{waitingAt, isFound, endedAt}
 use Rattle.port.specs.Answers.{Answer, Result, About, stray, plain, failed}
 use Rattle.port.specs.PortContracts.{aboutOf, kindNumber, resultOf}
 use Rattle.hidpp.specs.declared.Message.{Message}
-use Rattle.hidpp.specs.HidppRecords.{afterError}
-use Rattle.hidpp.specs.HidppTaking.{about, carried, unchanged, named2, named3, code, errorFits, kindOf, errorRule, featureRule, unaskedRule}
+use Rattle.hidpp.specs.HidppRecords.{isPing, afterError}
+use Rattle.hidpp.specs.Matching.{answers, answeredAt}
+use Rattle.hidpp.specs.HidppTaking.{about, carried, unchanged, named2, named3, code, errorFits, kindOf, errorRule, featureRule, unaskedRule, unansweredRule}
 
 -- an answer by what it carries, and the port after it
 pub carry : (answer : About → Answer) {x y : About} {p q : Port} → x ≡ y → p ≡ q → _≡_ {A = Result} (record { answer = answer x; port = p }) (record { answer = answer y; port = q })
@@ -30,6 +33,37 @@ error-ends p m a kind fits at found carries k e n =
   where
     result : About → ℕ → Result
     result x number = record { answer = failed x (code m) number; port = afterError (endedAt p (waitingAt p (named2 m) (named3 m))) (m .byte2 .0) (named2 m) (named3 m) (code m) }
+
+-- but for pings, a request that waits with the report's bytes 2 and 3 is answered by it
+pub answered-waiting : (p : Port) (m : Message) → isPing (m .byte2 .0) (m .byte3) ≡ false → waitingAt p (m .byte2 .0) (m .byte3) ≡ answeredAt p m
+answered-waiting p m e = λ i. firstAt (λ r. same r i) (p .places)
+  where
+    same : (r : Request) → matches (m .byte2 .0) (m .byte3) r ≡ answers m r
+    same r = simp e (by (matches (m .byte2 .0) (m .byte3) r))
+      where
+        by : (b : Bool) → b ≡ (b && true)
+        by true = refl
+        by false = refl
+
+-- so where none is answered, only a ping can wait with them
+module _ (p : Port) (m : Message) (none : isFound (answeredAt p m) ≡ false) where
+  abbrev pingWaits : Bool
+  pingWaits = isPing (m .byte2 .0) (m .byte3) && isFound (waitingAt p (m .byte2 .0) (m .byte3))
+
+  only-pings : isFound (waitingAt p (m .byte2 .0) (m .byte3)) ≡ pingWaits
+  only-pings = by (isPing (m .byte2 .0) (m .byte3)) refl
+    where
+      by : (b : Bool) → isPing (m .byte2 .0) (m .byte3) ≡ b → isFound (waitingAt p (m .byte2 .0) (m .byte3)) ≡ (b && isFound (waitingAt p (m .byte2 .0) (m .byte3)))
+      by true e = refl
+      by false e = ap isFound (answered-waiting p m e) ∙ none
+
+  pub ping-stray : pingWaits ≡ true → unchanged (carried stray m) p ≡ unansweredRule p m
+  unfolding unansweredRule
+  ping-stray e = simp (only-pings ∙ e)
+
+  pub rules-go-on : pingWaits ≡ false → unaskedRule p m ≡ unansweredRule p m
+  unfolding unansweredRule
+  rules-go-on e = simp (only-pings ∙ e)
 
 -- byte 2 is 0x80 or above, 0x40 to 0x7F, or below
 module _ (p : Port) (m : Message) where

@@ -1,10 +1,14 @@
 // Taking a HID++ report at the port that it names.
 ghost use mathlib.Core.Path.{_≡_};
+ghost use mathlib.Core.Bool.{_&&_};
 ghost use Rattle.report.specs.ReportContracts.{hidppOf};
 ghost use Rattle.port.specs.Records.{slotOf};
+ghost use Rattle.port.specs.Places.{firstAt};
+ghost use Rattle.port.specs.Waiting.{waitingAt, isFound};
 ghost use Rattle.port.specs.Answers.{stray, plain};
 ghost use Rattle.port.specs.PortContracts.{aboutOf, kindNumber, resultOf};
 ghost use Rattle.hidpp.specs.HidppRecords.{holds, isPing, isGetFeature, indexFrom, withFoundFeature, withBatteryFrom, isBatteryReply, afterReply, isVersion1, afterError, isEvent0, afterBatteryEvent, afterWirelessEvent, afterEvent};
+ghost use Rattle.hidpp.specs.Matching.{answers};
 ghost use Rattle.hidpp.specs.HidppTaking.{parameter, messageOf, about, carried, unchanged, isError, errorFits, kindOf, errorRule, replyRule, isMajor1, featureRule, unaskedRule, takeHidpp};
 use port::Battery;
 use port::FirstParameters;
@@ -373,6 +377,46 @@ fn take_unasked(port: Port, m: Message) -> PortTaken
     take_feature(port, m)
 }
 
+// Whether a reply answers this request: a ping only with its third parameter.
+fn is_answer(m: Message, request: Request) -> bool
+    ensures { λ r. ⌜ r ≡ answers m request ⌝ }
+{
+    if !port::is_match(request, m.byte2, m.byte3) {
+        return false;
+    }
+    if is_ping(m.byte2, m.byte3) {
+        return m.first.2 == request.first.2;
+    }
+    true
+}
+
+// The lowest place whose request a reply answers, or port::PLACES.
+fn first_answered(places: [Request; port::PLACES], m: Message) -> usize
+    ensures { λ r. ⌜ r ≡ firstAt (answers m) places ⌝ }
+{
+    let mut i = 0;
+    while i < port::PLACES {
+        let request = places[i];
+        if is_answer(m, request) {
+            return i;
+        }
+        i += 1;
+    }
+    port::PLACES
+}
+
+// Whether a ping with the bytes 2 and 3 of this message waits.
+fn has_ping(port: Port, m: Message) -> bool
+    ensures { λ r. ⌜ r ≡ isPing (m .byte2 .0) (m .byte3) && isFound (waitingAt port (m .byte2 .0) (m .byte3)) ⌝ }
+{
+    if is_ping(m.byte2, m.byte3) {
+        let places = port.places;
+        return port::first_match(places, m.byte2, m.byte3) < port::PLACES;
+    }
+    false
+}
+
+// Only a ping can wait with these bytes 2 and 3 and yet not be answered.
 fn take_message(port: Port, m: Message) -> PortTaken
     ensures { λ r. ⌜ resultOf r ≡ takeHidpp port m ⌝ }
 {
@@ -380,9 +424,12 @@ fn take_message(port: Port, m: Message) -> PortTaken
         return take_error(port, m);
     }
     let places = port.places;
-    let place = port::first_match(places, m.byte2, m.byte3);
+    let place = first_answered(places, m);
     if place < port::PLACES {
         return take_reply(port, m, place);
+    }
+    if has_ping(port, m) {
+        return stray(port, m);
     }
     take_unasked(port, m)
 }

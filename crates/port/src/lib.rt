@@ -112,8 +112,8 @@ pub fn paired_anew(port: Port, wpid: u16, reports: u32) -> Port
 }
 
 // Whether a request with these bytes 2 and 3 waits in the place.
-fn is_match(request: Request, byte2: FeatureIndex, byte3: u8) -> bool
-    ensures { λ r. ⌜ r ≡ matches (byte2 .0) byte3 request ⌝ }
+pub fn is_match(request: Request, byte2: FeatureIndex, byte3: u8) -> bool
+    ensures matched { λ r. ⌜ r ≡ matches (byte2 .0) byte3 request ⌝ }
 {
     if request.ticks == 0 {
         return false;
