@@ -21,7 +21,8 @@ use Rattle.port.specs.Waiting.{waitingAt, isFound}
 use Rattle.port.specs.declared.Port.{Port}
 use Rattle.port.specs.declared.Request.{Request}
 use Rattle.hidpp.specs.declared.Message.{Message}
-use Rattle.hidpp.specs.HidppTaking.{messageOf, isError, named2, named3, errorFits, isMajor1, errorRule, replyRule, featureRule, unaskedRule, takeHidpp}
+use Rattle.hidpp.specs.HidppTaking.{messageOf, takeHidpp}
+use Rattle.hidpp.specs.HidppTakingLaws.{of-each-answer}
 use Rattle.serial.specs.Serials.{Given, noSerial, serialOf, givenBy, serialRule}
 use Rattle.dj.specs.DjTaking.{isDeclared, isPairedWith, radioRule, unpairedRule, wpidOf, reportsOf, pairedRule, linkRule, otherRule, takeDj}
 use Rattle.request.specs.Requesting.{isForbidden, RequestAt, requestBy, requestAt}
@@ -93,20 +94,8 @@ FitsResult = Holds FitsTaken (λ (r : Result). r .answer)
 
 -- no answer to a HID++ report carries a number of several bytes
 hidpp-fits : (p : Port) (m : Message) → FitsResult (takeHidpp p m)
-unfolding FitsTaken takeHidpp errorRule replyRule unaskedRule featureRule
-hidpp-fits p m =
-    by-case FitsResult (isError byte2)
-    (λ e. by-case FitsResult (errorFits m && isFound (waitingAt p (named2 m) (named3 m))) (λ e. record { holds = tt }) (λ e. record { holds = tt }))
-    (λ e. by-case FitsResult (isFound (waitingAt p byte2 (m .byte3))) (λ e. record { holds = tt })
-    (λ e. by-case FitsResult (inRange 0x80 byte2 0x83) (λ e. record { holds = tt })
-    (λ e. by-case FitsResult (inRange 0x40 byte2 0x7F) (λ e. record { holds = tt })
-    (λ e. by-case FitsResult (isFeature byte2)
-    (λ e. by-case FitsResult (isMajor1 (p .version)) (λ e. record { holds = tt })
-    (λ e. by-case FitsResult (eqb (softwareId (m .byte3)) 0) (λ e. record { holds = tt }) (λ e. record { holds = tt })))
-    (λ e. record { holds = tt })))))
-  where
-    byte2 : ℕ
-    byte2 = m .byte2 .0
+unfolding FitsTaken
+hidpp-fits p m = record { holds = of-each-answer FitsTaken p m tt tt tt tt tt }
 
 dj-fits : (p : Port) (r : Report) (bytes : List ℕ) → Bytes bytes → FitsResult (takeDj p r bytes)
 unfolding FitsTaken takeDj radioRule unpairedRule pairedRule linkRule otherRule

@@ -4,8 +4,10 @@ use mathlib.Core.Path.{_≡_, refl, _∙_, ap}
 use mathlib.Core.Bool.{Bool, true, false, _&&_}
 use native.Mathlib.Omega.{arith}
 use borrow.Author.Tests.{lt-ltb, le-ltb, le-leb, lt-leb}
-use lib.Dec.{leb}
+use lib.Dec.{leb, eqb}
 use Rattle.report.specs.ChoicesLaws.{by-case}
+use Rattle.report.specs.Ports.{inRange}
+use Rattle.report.specs.Sizes.{softwareId, isFeature}
 use Rattle.port.specs.declared.Port.{Port}
 use Rattle.port.specs.declared.Request.{Request}
 use Rattle.port.specs.declared.answer.About as program
@@ -15,12 +17,12 @@ use Rattle.port.specs.Records.{placeCount}
 use Rattle.port.specs.Places.{matches, firstAt}
 use Rattle.port.specs.WaitingLaws.{is-found}
 use Rattle.port.specs.Waiting.{waitingAt, isFound, endedAt}
-use Rattle.port.specs.Answers.{Answer, Result, About, stray, plain, failed}
+use Rattle.port.specs.Answers.{Answer, Result, About, reply, stray, plain, event, failed}
 use Rattle.port.specs.PortContracts.{aboutOf, kindNumber, resultOf}
 use Rattle.hidpp.specs.declared.Message.{Message}
 use Rattle.hidpp.specs.HidppRecords.{isPing, afterError}
 use Rattle.hidpp.specs.Matching.{answers, answeredAt}
-use Rattle.hidpp.specs.HidppTaking.{about, carried, unchanged, named2, named3, code, errorFits, kindOf, errorRule, featureRule, unaskedRule, unansweredRule}
+use Rattle.hidpp.specs.HidppTaking.{about, carried, unchanged, isError, named2, named3, code, errorFits, kindOf, errorRule, replyRule, isMajor1, featureRule, unaskedRule, unansweredRule, takeHidpp}
 
 -- an answer by what it carries, and the port after it
 pub carry : (answer : About → Answer) {x y : About} {p q : Port} → x ≡ y → p ≡ q → _≡_ {A = Result} (record { answer = answer x; port = p }) (record { answer = answer y; port = q })
@@ -82,3 +84,22 @@ module _ (p : Port) (m : Message) where
   unfolding unaskedRule
   below-feature l =
       simp (lt-leb 0x80 (m .byte2 .0) (omega arith), lt-leb 0x40 (m .byte2 .0) l, lt-ltb (m .byte2 .0) 0x40 l)
+
+-- what holds of each answer that a HID++ report can have holds of the one that the rules give
+module _ (P : Answer → Type 0) (p : Port) (m : Message) where
+  abbrev At : Result → Type 0
+  At r = P (r .answer)
+
+  pub of-each-answer : P (failed (about m (named2 m) (named3 m)) (code m) (kindOf (m .byte2 .0))) → P (carried (reply 0) m) → P (carried stray m) → P (carried plain m) → P (carried event m) → P (takeHidpp p m .answer)
+  unfolding takeHidpp errorRule replyRule unansweredRule unaskedRule featureRule
+  of-each-answer fails replies strays plains events =
+      by-case At (isError (m .byte2 .0))
+      (λ e. by-case At (errorFits m && isFound (waitingAt p (named2 m) (named3 m))) (λ q. fails) (λ q. strays))
+      (λ e. by-case At (isFound (answeredAt p m)) (λ q. replies)
+      (λ q. by-case At (isFound (waitingAt p (m .byte2 .0) (m .byte3))) (λ z. strays)
+      (λ z. by-case At (inRange 0x80 (m .byte2 .0) 0x83) (λ y. strays)
+      (λ y. by-case At (inRange 0x40 (m .byte2 .0) 0x7F) (λ x. plains)
+      (λ x. by-case At (isFeature (m .byte2 .0))
+      (λ w. by-case At (isMajor1 (p .version)) (λ v. plains)
+      (λ v. by-case At (eqb (softwareId (m .byte3)) 0) (λ u. events) (λ u. strays)))
+      (λ w. strays))))))

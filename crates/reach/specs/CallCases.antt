@@ -1,4 +1,4 @@
--- Document 01, "Refusal numbers", "Writing", "Taking a HID++ report" and "Taking a DJ report", and document 02, Ask 1: which case a call falls into, and its whole outcome. Each case says all that it asks for, and so what the points before it left.
+-- Document 01, "Refusal numbers", "Writing", "Taking a HID++ report" and "Taking a DJ report", and document 02, Asks 1 and 2: which case a call falls into, and its whole outcome. Each case says all that it asks for, and so what the points before it left.
 use Prim.Native.Nat.{ℕ, _≤_, _<_}
 use mathlib.Core.Path.{_≡_}
 use mathlib.Core.Logic.{_↔_}
@@ -19,6 +19,7 @@ use Rattle.port.specs.Waiting as waiting
 use Rattle.port.specs.Waiting.{waitingAt, endedAt}
 use Rattle.port.specs.Answers.{Answer, refused, reply, stray, plain, event, failed, notice, unpaired, paired, emptyList, link, other, Result}
 use Rattle.hidpp.specs.declared.Message.{Message}
+use Rattle.hidpp.specs.Matching.{answers, answeredAt}
 use Rattle.hidpp.specs.HidppRecords.{afterReply, afterError, afterEvent}
 use Rattle.hidpp.specs.HidppTaking.{messageOf, about, carried, isError, named2, named3, code, errorFits, kindOf, isMajor1, takeHidpp}
 use Rattle.serial.specs.Serials.{SerialResult}
@@ -50,7 +51,11 @@ module _ (p : Port) (m : Message) where
   abbrev pub Names : Type 0
   Names = (errorFits m ≡ true) × Waits p (named2 m) (named3 m)
 
-  -- neither an error nor a reply
+  -- a request waits that the report answers
+  abbrev pub Answered : Type 0
+  Answered = (place : ℕ) × (answers m (requestIn (p .places) place) ≡ true)
+
+  -- no error, and none waits with these bytes 2 and 3
   abbrev pub Unasked : Type 0
   Unasked = (isError byte2 ≡ false) × (¬ Waits p byte2 byte3)
 
@@ -58,13 +63,15 @@ module _ (p : Port) (m : Message) where
   abbrev pub IsFailed : Type 0
   IsFailed = (isError byte2 ≡ true) × Names
 
-  -- 2. a waiting request has these bytes 2 and 3
+  -- 2. it answers a waiting request
   abbrev pub IsReply : Type 0
-  IsReply = (isError byte2 ≡ false) × Waits p byte2 byte3
+  IsReply = (isError byte2 ≡ false) × Answered
 
   pub data IsStray : Type 0 where
     -- 1. byte 2 is 0x8F or 0xFF, and none that it fits waits
     unnamed : isError byte2 ≡ true → ¬ Names → IsStray
+    -- 2. one waits with these bytes 2 and 3, a ping, and the third parameter differs
+    otherPing : isError byte2 ≡ false → ¬ Answered → Waits p byte2 byte3 → IsStray
     -- 3. byte 2 is 0x80 to 0x83
     register : Unasked → 0x80 ≤ byte2 → byte2 ≤ 0x83 → IsStray
     -- never read (`register` of Complete)
@@ -91,7 +98,7 @@ module _ (p : Port) (m : Message) where
   failedPlace = waitingAt p (named2 m) (named3 m)
 
   abbrev pub repliedPlace : ℕ
-  repliedPlace = waitingAt p byte2 byte3
+  repliedPlace = answeredAt p m
 
   -- the port after the reply
   abbrev pub repliedPort : Port

@@ -15,16 +15,19 @@ use Rattle.report.specs.Reading as reading
 use Rattle.report.specs.Reading.{Report, Read, readRule}
 use Rattle.frame.specs.Writing as writing
 use Rattle.port.specs.declared.Port.{Port}
+use Rattle.port.specs.declared.Request.{Request}
 use Rattle.port.specs.declared.Serial.{Serial}
 use Rattle.port.specs.declared.Serial.the-variants.{Unknown, Known}
-use Rattle.port.specs.Records.{placeCount, emptyPlace, madeFresh, withPairing, withSerial}
+use Rattle.port.specs.Records.{placeCount, emptyPlace, madeFresh, requestIn, withPairing, withSerial}
 use Rattle.port.specs.Places.{isEmpty, matches, firstAt, countWaiting}
 use Rattle.port.specs.Waiting as waiting
 use Rattle.port.specs.Waiting.{isFound, waitingAt, roomFor}
 use Rattle.port.specs.WaitingLaws.{few-waiting, full}
 use Rattle.port.specs.Answers.{Answer, refused, reply, stray, plain, event, failed, radio, notice, Result}
 use Rattle.hidpp.specs.declared.Message.{Message}
-use Rattle.hidpp.specs.HidppTaking.{messageOf, carried, isError, errorFits, named2, named3, errorRule, replyRule, featureRule, unaskedRule, takeHidpp}
+use Rattle.hidpp.specs.HidppRecords.{isPing}
+use Rattle.hidpp.specs.Matching.{answers, answeredAt}
+use Rattle.hidpp.specs.HidppTaking.{messageOf, carried, isError, errorFits, named2, named3, errorRule, replyRule, featureRule, unaskedRule, unansweredRule, takeHidpp}
 use Rattle.serial.specs.Serials.{Given, noSerial, serialOf, givenBy, isAnother, SerialResult, serialRule}
 use Rattle.serial.specs.Giving.{Gives}
 use Rattle.serial.specs.GivingLaws.{no-serial, given-exactly}
@@ -39,7 +42,7 @@ use Rattle.sequence.specs.Steps.{Call, take, request, cancel, tick, write, Outc
 use Rattle.reach.specs.ListsLaws.{found-passes, passes-found}
 use Rattle.sequence.specs.ReadingsLaws.{in-range, above}
 use Rattle.reach.specs.SoundLaws.{empty-fails}
-use Rattle.reach.specs.CallCases.{Waits, Unasked, IsFailed, IsReply, IsStray, unnamed, register, reserved, late, IsPlain, notification, major1, IsEvent, software0, HidppCase, givesFailed, givesReply, givesStray, givesPlain, givesEvent, gives, repliedPort, SerialCase, keepsNone, firstSerial, sameSerial, otherSerial, radioUnpaired, radioUndeclared, linkUnpaired, DjCase, djRefused, radioTaken, unpairs, pairedSame, pairedNew, linkSet, otherNotice, Writable, RequestRefused, is9, is10, is11, is12, RequestCase, requestRefused, accepted, CancelCase, refused13, cancelDone, StepCase, unread, listEmpty, hidppAtPort, serialAtPort, djAtPort, request5, requestAtPort, cancel5, cancelAtPort, tickAllPorts, writeOnly, Placed, AllPlaced, ByCases, HidppAnswers, RequestAnswers, CancelAnswers}
+use Rattle.reach.specs.CallCases.{Waits, Answered, Unasked, IsFailed, IsReply, IsStray, unnamed, otherPing, register, reserved, late, IsPlain, notification, major1, IsEvent, software0, HidppCase, givesFailed, givesReply, givesStray, givesPlain, givesEvent, gives, repliedPort, SerialCase, keepsNone, firstSerial, sameSerial, otherSerial, radioUnpaired, radioUndeclared, linkUnpaired, DjCase, djRefused, radioTaken, unpairs, pairedSame, pairedNew, linkSet, otherNotice, Writable, RequestRefused, is9, is10, is11, is12, RequestCase, requestRefused, accepted, CancelCase, refused13, cancelDone, StepCase, unread, listEmpty, hidppAtPort, serialAtPort, djAtPort, request5, requestAtPort, cancel5, cancelAtPort, tickAllPorts, writeOnly, Placed, AllPlaced, ByCases, HidppAnswers, RequestAnswers, CancelAnswers}
 
 -- joined with a false test
 pub and-false : (b : Bool) → (b && false) ≡ false
@@ -51,24 +54,54 @@ pub not-so : (b : Bool) → ¬ (b ≡ true) → b ≡ false
 not-so true n = absurd (n refl)
 not-so false n = refl
 
-module _ (p : Port) (placed : Placed p) where
-  -- what the search finds waits, and what waits is found
-  pub waits-at : (byte2 byte3 : ℕ) → isFound (waitingAt p byte2 byte3) ≡ true → Waits p byte2 byte3
-  waits-at byte2 byte3 e =
-      (waitingAt p byte2 byte3, found-passes (matches byte2 byte3) emptyPlace (p .places) (omega (arith, placed, ltb-true (waitingAt p byte2 byte3) placeCount e)))
+-- what a search finds passes its test, and what passes is found
+module _ (p : Port) (placed : Placed p) (test : Request → Bool) (fails : test emptyPlace ≡ false) where
+  abbrev Passes : Type 0
+  Passes = (place : ℕ) × (test (requestIn (p .places) place) ≡ true)
 
-  pub waits-found : (byte2 byte3 : ℕ) → Waits p byte2 byte3 → waitingAt p byte2 byte3 < placeCount
-  waits-found byte2 byte3 w =
-      omega (arith, placed, passes-found (matches byte2 byte3) emptyPlace (p .places) (w .0) (empty-fails byte2 byte3) (w .1))
+  abbrev lowest : ℕ
+  lowest = firstAt test (p .places)
+
+  pub passes-there : Passes → (lowest < length (p .places)) × (test (requestIn (p .places) lowest) ≡ true)
+  passes-there w =
+      let h : lowest < length (p .places) = passes-found test emptyPlace (p .places) (w .0) fails (w .1) in
+      (h, found-passes test emptyPlace (p .places) h)
+
+  passes-at : isFound lowest ≡ true → Passes
+  passes-at e = (lowest, found-passes test emptyPlace (p .places) (omega (arith, placed, ltb-true lowest placeCount e)))
+
+  found-at : Passes → isFound lowest ≡ true
+  found-at w = lt-ltb lowest placeCount (omega (arith, placed, passes-there w .0))
+
+  none-passes : isFound lowest ≡ false → ¬ Passes
+  none-passes e w = true≢false (sym (found-at w) ∙ e)
+
+  none-at : ¬ Passes → isFound lowest ≡ false
+  none-at n = not-so _ (λ e. n (passes-at e))
+
+-- no report answers an empty place
+pub none-answers : (m : Message) → answers m emptyPlace ≡ false
+none-answers m = simp (empty-fails (m .byte2 .0) (m .byte3))
+
+-- a request that is answered waits with the report's bytes 2 and 3
+pub answers-matches : (m : Message) (r : Request) → answers m r ≡ true → matches (m .byte2 .0) (m .byte3) r ≡ true
+answers-matches m r e = both (matches (m .byte2 .0) (m .byte3) r) _ e .0
+
+pub answered-waits : (p : Port) (m : Message) → Answered p m → Waits p (m .byte2 .0) (m .byte3)
+answered-waits p m w = (w .0, answers-matches m (requestIn (p .places) (w .0)) (w .1))
+
+module _ (p : Port) (placed : Placed p) where
+  pub waits-at : (byte2 byte3 : ℕ) → isFound (waitingAt p byte2 byte3) ≡ true → Waits p byte2 byte3
+  waits-at byte2 byte3 = passes-at p placed (matches byte2 byte3) (empty-fails byte2 byte3)
 
   found : (byte2 byte3 : ℕ) → Waits p byte2 byte3 → isFound (waitingAt p byte2 byte3) ≡ true
-  found byte2 byte3 w = lt-ltb _ _ (waits-found byte2 byte3 w)
+  found byte2 byte3 = found-at p placed (matches byte2 byte3) (empty-fails byte2 byte3)
 
   none-waits : (byte2 byte3 : ℕ) → isFound (waitingAt p byte2 byte3) ≡ false → ¬ Waits p byte2 byte3
-  none-waits byte2 byte3 e w = true≢false (sym (found byte2 byte3 w) ∙ e)
+  none-waits byte2 byte3 = none-passes p placed (matches byte2 byte3) (empty-fails byte2 byte3)
 
   none-found : (byte2 byte3 : ℕ) → ¬ Waits p byte2 byte3 → isFound (waitingAt p byte2 byte3) ≡ false
-  none-found byte2 byte3 n = not-so _ (λ e. n (waits-at byte2 byte3 e))
+  none-found byte2 byte3 = none-at p placed (matches byte2 byte3) (empty-fails byte2 byte3)
 
   -- where fewer wait than the port has places, one is empty
   pub empty-place : countWaiting (p .places) < placeCount → firstAt isEmpty (p .places) < length (p .places)
@@ -101,34 +134,46 @@ module _ (p : Port) (placed : Placed p) (m : Message) where
       (λ q. by-case Case _ (λ z. feature-case u (ltb-true _ _ z))
       (λ z. givesStray (reserved u (above 0x80 b2 0x83 e (above 0x40 b2 0x7F q (ltb-false _ _ z)))))))
 
+  unanswered-case : isError b2 ≡ false → ¬ Answered p m → Case (unansweredRule p m)
+  unfolding unansweredRule
+  unanswered-case e n =
+      by-case Case _ (λ q. givesStray (otherPing e n (waits-at p placed _ _ q)))
+      (λ q. unasked-case (e, none-waits p placed _ _ q))
+
   pub hidpp-case : HidppCase p m (takeHidpp p m)
   unfolding takeHidpp errorRule replyRule
   hidpp-case =
       by-case Case _
       (λ e. by-case Case _ (λ q. let h = both _ _ q in givesFailed (e, (h .0, waits-at p placed _ _ (h .1))))
       (λ q. givesStray (unnamed e (λ n. true≢false (simp (n .0, found p placed _ _ (n .1)) at q)))))
-      (λ e. by-case Case _ (λ q. givesReply (e, waits-at p placed _ _ q))
-      (λ q. unasked-case (e, none-waits p placed _ _ q)))
+      (λ e. by-case Case _ (λ q. givesReply (e, passes-at p placed (answers m) (none-answers m) q))
+      (λ q. unanswered-case e (none-passes p placed (answers m) (none-answers m) q)))
 
-  missed : Unasked p m → isFound (waitingAt p b2 (m .byte3)) ≡ false
-  missed u = none-found p placed b2 (m .byte3) (u .1)
+  unanswered : ¬ Answered p m → isFound (answeredAt p m) ≡ false
+  unanswered n = none-at p placed (answers m) (none-answers m) n
+
+  by-unasked : Unasked p m → takeHidpp p m ≡ unaskedRule p m
+  unfolding takeHidpp unansweredRule
+  by-unasked u =
+      simp (u .0, unanswered (λ w. u .1 (answered-waits p m w)), none-found p placed b2 (m .byte3) (u .1))
 
   low80 : b2 < 0x40 → leb 0x80 b2 ≡ false
   low80 l = lt-leb 0x80 b2 (omega arith)
 
   -- it has no other
   hidpp-only : {r : Result} → HidppCase p m r → takeHidpp p m ≡ r
-  unfolding takeHidpp errorRule replyRule unaskedRule featureRule
+  unfolding takeHidpp errorRule replyRule unansweredRule unaskedRule featureRule
   hidpp-only (givesFailed h) = simp (h .0, h .1 .0, found p placed (named2 m) (named3 m) (h .1 .1))
-  hidpp-only (givesReply h) = simp (h .0, found p placed b2 (m .byte3) (h .1))
+  hidpp-only (givesReply h) = simp (h .0, found-at p placed (answers m) (none-answers m) (h .1))
   hidpp-only (givesStray (unnamed e n)) = simp (e, not-so (errorFits m && isFound (waitingAt p (named2 m) (named3 m))) (λ q. let h = both _ _ q in n (h .0, waits-at p placed _ _ (h .1))))
-  hidpp-only (givesStray (register u h l)) = simp (u .0, missed u, le-leb)
+  hidpp-only (givesStray (otherPing e n w)) = simp (e, unanswered n, found p placed b2 (m .byte3) w)
+  hidpp-only (givesStray (register u h l)) = by-unasked u ∙ simp le-leb
   hidpp-only (givesStray (reserved u h)) =
-      simp (u .0, missed u, lt-leb b2 0x83 h, lt-leb b2 0x7F (omega arith), le-leb 0x80 b2 (omega arith), le-leb 0x40 b2 (omega arith), le-ltb b2 0x40 (omega arith))
-  hidpp-only (givesStray (late u l v z)) = simp (u .0, missed u, low80 l, lt-leb, lt-ltb, v, ne-eqb)
-  hidpp-only (givesPlain (notification u h l)) = simp (u .0, missed u, lt-leb 0x80 b2 (omega arith), le-leb)
-  hidpp-only (givesPlain (major1 u l v)) = simp (u .0, missed u, low80 l, lt-leb, lt-ltb, v)
-  hidpp-only (givesEvent (software0 u l v z)) = simp (u .0, missed u, low80 l, lt-leb, lt-ltb, v, z)
+      by-unasked u ∙ simp (lt-leb b2 0x83 h, lt-leb b2 0x7F (omega arith), le-leb 0x80 b2 (omega arith), le-leb 0x40 b2 (omega arith), le-ltb b2 0x40 (omega arith))
+  hidpp-only (givesStray (late u l v z)) = by-unasked u ∙ simp (low80 l, lt-leb, lt-ltb, v, ne-eqb)
+  hidpp-only (givesPlain (notification u h l)) = by-unasked u ∙ simp (lt-leb 0x80 b2 (omega arith), le-leb)
+  hidpp-only (givesPlain (major1 u l v)) = by-unasked u ∙ simp (low80 l, lt-leb, lt-ltb, v)
+  hidpp-only (givesEvent (software0 u l v z)) = by-unasked u ∙ simp (low80 l, lt-leb, lt-ltb, v, z)
 
   -- what is so where an answer is given
   abbrev Why : Answer → Type 0
@@ -251,13 +296,19 @@ module _ (p : Port) (placed : Placed p) (byte2 byte3 : ℕ) where
   cancel-answers =
       (not-waiting cancel-case, λ n. ap (λ (r : waiting.CancelResult). r .answer) (cancel-only (refused13 n)))
 
--- a report that gives a serial is a reply
+-- a report that gives a serial answers the request for it, which is no ping: it is a reply
+pub serial-answered : (p : Port) → Placed p → (r : Report) (bytes : List ℕ) {device number : ℕ} → Gives p r bytes device number → Answered p (messageOf r bytes)
+unfolding messageOf
+serial-answered p placed r bytes h =
+    let waits : Waits p (r .byte2) (r .byte3) = waits-at p placed (r .byte2) (r .byte3) (cc (h .byte2, h .byte3, h .waits)) in
+    let no-ping : isPing (r .byte2) (r .byte3) ≡ false = ap (λ (byte2 : ℕ). isPing byte2 (r .byte3)) (h .byte2) in
+    (waits .0, simp (waits .1, no-ping))
+
 reply-given : (p : Port) → Placed p → (r : Report) (bytes : List ℕ) {device number : ℕ} → Gives p r bytes device number → takeHidpp p (messageOf r bytes) ≡ gives (carried (reply 0) (messageOf r bytes)) (repliedPort p (messageOf r bytes))
 unfolding messageOf
 reply-given p placed r bytes h =
-    let waits : Waits p (r .byte2) (r .byte3) = waits-at p placed (r .byte2) (r .byte3) (cc (h .byte2, h .byte3, h .waits)) in
     let no-error : isError (r .byte2) ≡ false = ap isError (h .byte2) in
-    hidpp-only p placed (messageOf r bytes) (givesReply (no-error, waits))
+    hidpp-only p placed (messageOf r bytes) (givesReply (no-error, serial-answered p placed r bytes h))
 
 none-given : (p : Port) (r : Report) (bytes : List ℕ) → ((device number : ℕ) → ¬ Gives p r bytes device number) → givenBy p r bytes ≡ noSerial
 none-given p r bytes n = go (givenBy p r bytes) refl

@@ -1,4 +1,4 @@
--- Demand 2, in its own words, with document 02, Ask 1: which request a report that is taken completes, and which requests a DJ report, or another serial, drops.
+-- Demand 2, in its own words, with document 02, Asks 1 and 2: which request a report that is taken completes, and which requests a DJ report, or another serial, drops.
 use Prim.Native.Nat.{ℕ}
 use mathlib.Core.Path.{_≡_}
 use mathlib.Core.Logic.{_↔_}
@@ -6,7 +6,7 @@ use mathlib.Core.Bool.{Bool, true, false, cond, not, _&&_, _||_}
 use mathlib.Core.List.{List}
 use lib.Dec.{eqb}
 use Rattle.report.specs.Ports.{isPort}
-use Rattle.report.specs.Sizes.{byte, hidppStart, isFeature}
+use Rattle.report.specs.Sizes.{byte, hidppStart, function, isFeature}
 use Rattle.report.specs.Reading as reading
 use Rattle.report.specs.Reading.{Read, reportFrom, readRule}
 use Rattle.port.specs.declared.Port.{Port}
@@ -15,7 +15,9 @@ use Rattle.port.specs.declared.Serial.the-variants.{Known}
 use Rattle.port.specs.Records.{emptyPlace, requestIn}
 use Rattle.port.specs.Places.{isEmpty, matches}
 use Rattle.port.specs.Answers.{Answer, refused, reply, stray, plain, event, failed, radio, notice}
-use Rattle.hidpp.specs.HidppTaking.{isError}
+use Rattle.hidpp.specs.Matching.{answers}
+use Rattle.hidpp.specs.HidppTaking.{messageOf, carried, isError}
+use Rattle.hidpp.specs.Answering.{Answers}
 use Rattle.serial.specs.Serials.{Given, noSerial, serialOf, givenBy, isAnother, SerialResult}
 use Rattle.serial.specs.Giving.{Gives}
 use Rattle.dj.specs.DjTaking.{wpidOf, isPairedWith}
@@ -56,10 +58,19 @@ isHidppRead (reading.emptyList r) = false
 abbrev pub isFitting : List ℕ → Bool
 isFitting bytes = eqb (byte bytes 2) 0x8F || isFeature (byte bytes 3)
 
--- one waits on the device that byte 1 names with the same bytes 2 and 3, and the report is no error
+-- the report is no error, and one waits on the device that byte 1 names that it answers: with the same bytes 2 and 3 and, of a ping, the same third parameter
 abbrev pub Replies : Station → List ℕ → Type 0
 Replies st bytes =
-    (isHidppRead (readRule bytes) ≡ true) × ((isError (byte bytes 2) ≡ false) × Waits (portFor st (byte bytes 1)) (byte bytes 2) (byte bytes 3))
+    (isHidppRead (readRule bytes) ≡ true) × ((isError (byte bytes 2) ≡ false) × ((place : ℕ) × Answers bytes (requestIn (portFor st (byte bytes 1) .places) place)))
+
+-- a ping waits there with the same bytes 2 and 3, and its third parameter is not that of the report
+pub record OtherPing (st : Station) (bytes : List ℕ) : Type 0 where
+  pub read : isHidppRead (readRule bytes) ≡ true
+  pub byte2 : byte bytes 2 ≡ 0
+  pub function1 : function (byte bytes 3) ≡ 1
+  pub place : ℕ
+  pub waits : matches (byte bytes 2) (byte bytes 3) (requestIn (portFor st (byte bytes 1) .places) place) ≡ true
+  pub differs : ¬ (byte bytes 6 ≡ requestIn (portFor st (byte bytes 1) .places) place .first .2)
 
 -- the report is an error, one waits there with the two bytes that it names, and the kind fits it
 abbrev pub Fails : Station → List ℕ → Type 0
@@ -73,7 +84,7 @@ makesFresh p kind bytes = eqb kind 0x40 || (eqb kind 0x41 && not (isPairedWith p
 -- a HID++ report ends the request that it answers, on the device that byte 1 names
 abbrev pub answersRequest : List ℕ → ℕ → Request → Bool
 answersRequest bytes n r =
-    eqb (byte bytes 1) n && cond (isError (byte bytes 2)) (isFitting bytes && matches (byte bytes 3) (byte bytes 4) r) (matches (byte bytes 2) (byte bytes 3) r)
+    eqb (byte bytes 1) n && cond (isError (byte bytes 2)) (isFitting bytes && matches (byte bytes 3) (byte bytes 4) r) (answers (messageOf (reportFrom hidppStart bytes) bytes) r)
 
 -- a serial that differs from the one that is known of its device, which is paired
 abbrev pub swaps : ℕ → Port → Given → Bool
@@ -114,6 +125,8 @@ pub record Completion (st : Station) (bytes : List ℕ) (answer : Answer) (next 
   -- a reply completes a request exactly then; an error, exactly then
   pub replies : (isReply answer ≡ true) ↔ Replies st bytes
   pub fails : (isFailure answer ≡ true) ↔ Fails st bytes
+  -- where a ping waits and that byte differs the report is stray, and changes nothing
+  pub other-ping : OtherPing st bytes → (answer ≡ carried stray (messageOf (reportFrom hidppStart bytes) bytes)) × (next ≡ st)
   -- that one is ended, with those that are dropped, and no other place of any port changes
   pub ends : (n : ℕ) → isPort n ≡ true → (place : ℕ) → requestIn (portFor next n .places) place ≡ cond (endsIn st bytes n place) emptyPlace (requestIn (portFor st n .places) place)
   -- a HID++ report ends one at most on the port that it names

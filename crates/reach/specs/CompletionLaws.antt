@@ -5,7 +5,7 @@ use mathlib.Core.Logic.{_↔_}
 use mathlib.Core.Bool.{Bool, true, false, cond, not, _&&_, _||_, true≢false, false≢true}
 use mathlib.Core.List.{List}
 use native.Mathlib.Omega.{arith}
-use lib.ListN.{length, length-set}
+use lib.ListN.{length, set, length-set}
 use lib.Dec.{eqb}
 use borrow.Author.Tests.{eqb-true, eqb-false, eq-eqb, ne-eqb, not-true}
 use Rattle.report.specs.ChoicesLaws.{both}
@@ -22,14 +22,16 @@ use Rattle.port.specs.Places.{isEmpty, matches, countWaiting}
 use Rattle.port.specs.Waiting.{endedAt}
 use Rattle.port.specs.Answers.{Answer, refused, reply, stray, plain, event, failed, radio, notice, emptyList, Result}
 use Rattle.hidpp.specs.declared.Message.{Message}
-use Rattle.hidpp.specs.HidppTaking.{messageOf, isError, errorFits, named2, named3, code}
+use Rattle.hidpp.specs.Matching.{answers}
+use Rattle.hidpp.specs.HidppTaking.{messageOf, carried, isError, errorFits, named2, named3, code}
+use Rattle.hidpp.specs.AnsweringLaws.{answers-exactly}
 use Rattle.serial.specs.Serials.{Given, noSerial, serialOf, givenBy, isAnother, SerialResult, serialRule}
 use Rattle.serial.specs.Giving.{Gives}
 use Rattle.serial.specs.GivingLaws.{given-exactly}
 use Rattle.dj.specs.DjTaking.{takeDj}
 use Rattle.station.specs.declared.Station.{Station}
 use Rattle.station.specs.Stations.{portCount, positionOf, withPort}
-use Rattle.station.specs.StationsLaws.{device-number, position-within}
+use Rattle.station.specs.StationsLaws.{device-number, same-port, position-within}
 use Rattle.station.specs.StationTaking.{storedAt, withDrops, alsoAt, takeBy, takeRule}
 use Rattle.sequence.specs.Readings.{ReadFits}
 use Rattle.sequence.specs.ReadingsLaws.{dj-port, read-fits}
@@ -38,16 +40,17 @@ use Rattle.sequence.specs.NumbersLaws.{device-port, one-number}
 use Rattle.sequence.specs.IndependenceLaws.{stored, elsewhere}
 use Rattle.reach.specs.Sound.{SoundPlaces, Reached}
 use Rattle.reach.specs.SoundLaws.{reply-records, error-records, event-records}
-use Rattle.reach.specs.CallCases.{Waits, Unasked, failedPlace, repliedPlace, IsStray, unnamed, register, reserved, late, IsPlain, notification, major1, IsEvent, software0, HidppCase, givesFailed, givesReply, givesStray, givesPlain, givesEvent, radioUnpaired, radioUndeclared, linkUnpaired, DjCase, djRefused, radioTaken, unpairs, pairedSame, pairedNew, linkSet, otherNotice}
-use Rattle.reach.specs.CallCasesLaws.{not-so, waits-at, hidpp-case, serial-case, dj-case}
-use Rattle.reach.specs.EndsLaws.{Emptied, hit, miss, emptied-at, fresh-empty}
-use Rattle.reach.specs.Completion.{isReply, isFailure, isHidppRead, isFitting, makesFresh, answersRequest, swaps, readEnds, Swaps, Told, Completion}
+use Rattle.reach.specs.CallCases.{Waits, Answered, Unasked, failedPlace, repliedPlace, gives, IsStray, unnamed, otherPing, register, reserved, late, IsPlain, notification, major1, IsEvent, software0, HidppCase, givesFailed, givesReply, givesStray, givesPlain, givesEvent, radioUnpaired, radioUndeclared, linkUnpaired, DjCase, djRefused, radioTaken, unpairs, pairedSame, pairedNew, linkSet, otherNotice}
+use Rattle.reach.specs.CallCasesLaws.{not-so, answers-matches, answered-waits, serial-answered, hidpp-case, serial-case, dj-case}
+use Rattle.reach.specs.EndsLaws.{Emptied, hit, miss, answered-place, emptied-at, fresh-empty}
+use Rattle.reach.specs.Completion.{isReply, isFailure, isHidppRead, isFitting, OtherPing, makesFresh, answersRequest, swaps, readEnds, Swaps, Told, Completion}
 
 -- at its port: when the answer is a reply, and when an error, and what becomes of each place
 record HidppAt (p : Port) (m : Message) (r : Result) : Type 0 where
-  reply : (isReply (r .answer) ≡ true) ↔ ((isError (m .byte2 .0) ≡ false) × Waits p (m .byte2 .0) (m .byte3))
+  reply : (isReply (r .answer) ≡ true) ↔ ((isError (m .byte2 .0) ≡ false) × Answered p m)
   failure : (isFailure (r .answer) ≡ true) ↔ ((isError (m .byte2 .0) ≡ true) × ((errorFits m ≡ true) × Waits p (named2 m) (named3 m)))
-  place : (i : ℕ) → requestIn (r .port .places) i ≡ cond (cond (isError (m .byte2 .0)) (errorFits m && matches (named2 m) (named3 m) (requestIn (p .places) i)) (matches (m .byte2 .0) (m .byte3) (requestIn (p .places) i))) emptyPlace (requestIn (p .places) i)
+  place : (i : ℕ) → requestIn (r .port .places) i ≡ cond (cond (isError (m .byte2 .0)) (errorFits m && matches (named2 m) (named3 m) (requestIn (p .places) i)) (answers m (requestIn (p .places) i))) emptyPlace (requestIn (p .places) i)
+  other : Waits p (m .byte2 .0) (m .byte3) → isError (m .byte2 .0) ≡ false → ¬ Answered p m → (r .answer ≡ carried stray m) × (r .port ≡ p)
 
 module _ (p : Port) (m : Message) (s : SoundPlaces (p .places)) where
   abbrev b2 : ℕ
@@ -57,25 +60,42 @@ module _ (p : Port) (m : Message) (s : SoundPlaces (p .places)) where
   by-emptied (hit e z) = simp e z
   by-emptied (miss e z) = simp e z
 
-  -- no error, and no request with its bytes 2 and 3: nothing ends
-  unasked-at : {r : Result} → Unasked p m → isReply (r .answer) ≡ false → isFailure (r .answer) ≡ false → r .port .places ≡ p .places → HidppAt p m r
-  unasked-at {r} u a b e =
+  -- where one is answered, no other waits with these bytes 2 and 3: either test is that one's
+  either-test : Answered p m → (i : ℕ) → answers m (requestIn (p .places) i) ≡ matches b2 (m .byte3) (requestIn (p .places) i)
+  either-test w i = go (matches b2 (m .byte3) (requestIn (p .places) i)) refl
+    where
+      go : (b : Bool) → matches b2 (m .byte3) (requestIn (p .places) i) ≡ b → answers m (requestIn (p .places) i) ≡ b
+      go true e =
+          subst (λ (j : ℕ). answers m (requestIn (p .places) j) ≡ true) (s .unique b2 (m .byte3) (w .0) i (answers-matches m (requestIn (p .places) (w .0)) (w .1)) e) (w .1)
+      go false e = simp e
+
+  -- no error, and no request that it answers: nothing ends
+  unanswered-at : {r : Result} → isError b2 ≡ false → ¬ Answered p m → isReply (r .answer) ≡ false → isFailure (r .answer) ≡ false → r .port .places ≡ p .places → (Waits p b2 (m .byte3) → (r .answer ≡ carried stray m) × (r .port ≡ p)) → HidppAt p m r
+  unanswered-at {r} no-error none a b e other =
       record {
-        reply = (λ q. absurd (false≢true (sym a ∙ q)), λ q. absurd (u .1 (q .1)));
-        failure = (λ q. absurd (false≢true (sym b ∙ q)), λ q. absurd (true≢false (sym (q .0) ∙ u .0)));
-        place = λ i. simp (u .0, not-so (matches b2 (m .byte3) (requestIn (p .places) i)) (λ q. u .1 (i, q))) (ap (λ (l : List Request). requestIn l i) e);
+        reply = (λ q. absurd (false≢true (sym a ∙ q)), λ q. absurd (none (q .1)));
+        failure = (λ q. absurd (false≢true (sym b ∙ q)), λ q. absurd (true≢false (sym (q .0) ∙ no-error)));
+        place = λ i. simp (no-error, not-so (answers m (requestIn (p .places) i)) (λ q. none (i, q))) (ap (λ (l : List Request). requestIn l i) e);
+        other = λ w q n. other w;
       }
 
-  stray-at : {r : Result} → IsStray p m → isReply (r .answer) ≡ false → isFailure (r .answer) ≡ false → r .port .places ≡ p .places → HidppAt p m r
-  stray-at {r} (unnamed e n) a b z =
+  -- and none with its bytes 2 and 3
+  unasked-at : {r : Result} → Unasked p m → isReply (r .answer) ≡ false → isFailure (r .answer) ≡ false → r .port .places ≡ p .places → HidppAt p m r
+  unasked-at u a b e =
+      unanswered-at (u .0) (λ w. u .1 (answered-waits p m w)) a b e (λ w. absurd (u .1 w))
+
+  stray-at : IsStray p m → HidppAt p m (gives (carried stray m) p)
+  stray-at (unnamed e n) =
       record {
-        reply = (λ q. absurd (false≢true (sym a ∙ q)), λ q. absurd (true≢false (sym e ∙ q .0)));
-        failure = (λ q. absurd (false≢true (sym b ∙ q)), λ q. absurd (n (q .1)));
-        place = λ i. simp (e, not-so (errorFits m && matches (named2 m) (named3 m) (requestIn (p .places) i)) (λ q. let h = both _ _ q in n (h .0, (i, h .1)))) (ap (λ (l : List Request). requestIn l i) z);
+        reply = (λ q. absurd (false≢true q), λ q. absurd (true≢false (sym e ∙ q .0)));
+        failure = (λ q. absurd (false≢true q), λ q. absurd (n (q .1)));
+        place = λ i. simp (e, not-so (errorFits m && matches (named2 m) (named3 m) (requestIn (p .places) i)) (λ q. let h = both _ _ q in n (h .0, (i, h .1)))) ;
+        other = λ w q n. absurd (true≢false (sym e ∙ q));
       }
-  stray-at (register u h l) a b z = unasked-at u a b z
-  stray-at (reserved u h) a b z = unasked-at u a b z
-  stray-at (late u l v w) a b z = unasked-at u a b z
+  stray-at (otherPing e n w) = unanswered-at e n refl refl refl (λ q. (refl, refl))
+  stray-at (register u h l) = unasked-at u refl refl refl
+  stray-at (reserved u h) = unasked-at u refl refl refl
+  stray-at (late u l v w) = unasked-at u refl refl refl
 
   plain-at : {r : Result} → IsPlain p m → isReply (r .answer) ≡ false → isFailure (r .answer) ≡ false → r .port .places ≡ p .places → HidppAt p m r
   plain-at (notification u h l) a b z = unasked-at u a b z
@@ -91,14 +111,16 @@ module _ (p : Port) (m : Message) (s : SoundPlaces (p .places)) where
         reply = (λ q. absurd (false≢true q), λ q. absurd (true≢false (sym (h .0) ∙ q .0)));
         failure = (λ q. h, λ q. refl);
         place = λ i. simp (h .0, h .1 .0) (ap (λ (l : List Request). requestIn l i) (error-records (endedAt p (failedPlace p m)) b2 (named2 m) (named3 m) (code m) .places) ∙ by-emptied (emptied-at p s (named2 m) (named3 m) (h .1 .1) i));
+        other = λ w q n. absurd (true≢false (sym (h .0) ∙ q));
       }
   hidpp-at (givesReply h) =
       record {
         reply = (λ q. h, λ q. refl);
         failure = (λ q. absurd (false≢true q), λ q. absurd (true≢false (sym (q .0) ∙ h .0)));
-        place = λ i. simp (h .0) (ap (λ (l : List Request). requestIn l i) (reply-records (endedAt p (repliedPlace p m)) m (requestIn (p .places) (repliedPlace p m)) .places) ∙ by-emptied (emptied-at p s b2 (m .byte3) (h .1) i));
+        place = λ i. simp (h .0, either-test (h .1) i) (ap (λ (l : List Request). requestIn l i) (reply-records (endedAt p (repliedPlace p m)) m (requestIn (p .places) (repliedPlace p m)) .places ∙ ap (λ (place : ℕ). set (p .places) place emptyPlace) (answered-place p s m (h .1))) ∙ by-emptied (emptied-at p s b2 (m .byte3) (answered-waits p m (h .1)) i));
+        other = λ w q n. absurd (n (h .1));
       }
-  hidpp-at (givesStray h) = stray-at h refl refl refl
+  hidpp-at (givesStray h) = stray-at h
   hidpp-at (givesPlain h) = plain-at h refl refl refl
   hidpp-at (givesEvent h) = event-at h refl refl (event-records p m .places)
 
@@ -227,6 +249,7 @@ module _ (st : Station) (k : Reached st) (bytes : List ℕ) where
         replies = (λ q. absurd (false≢true (sym a ∙ q)), λ q. absurd (true≢false (sym (q .0) ∙ e)));
         fails = (λ q. absurd (false≢true (sym b ∙ q)), λ q. absurd (true≢false (sym (q .0) ∙ e)));
         ends = λ n h i. simp (f n (view n st) (requestIn (view n st .places) i));
+        other-ping = λ o. absurd (true≢false (sym (o .read) ∙ e));
         one = λ q. absurd (true≢false (sym q ∙ e));
         told = λ q. absurd (true≢false (sym q ∙ e));
         untold = λ n. z;
@@ -248,7 +271,7 @@ module _ (st : Station) (k : Reached st) (bytes : List ℕ) where
 
   -- the request that the report answers
   abbrev answered : Request → Bool
-  answered r = cond (isError (byte bytes 2)) (isFitting bytes && matches (byte bytes 3) (byte bytes 4) r) (matches (byte bytes 2) (byte bytes 3) r)
+  answered r = cond (isError (byte bytes 2)) (isFitting bytes && matches (byte bytes 3) (byte bytes 4) r) (answers message r)
 
   -- only a report on port 255 gives a serial, and it is not 255's
   given-fits : (device number : ℕ) → given ≡ serialOf device number → (byte bytes 1 ≡ 255) × (isDevice device ≡ true)
@@ -276,10 +299,11 @@ module _ (st : Station) (k : Reached st) (bytes : List ℕ) where
   hidpp-one i j p q =
       go (isError (byte bytes 2)) (sym (on-own (byte bytes 1) refl own (requestIn (own .places) i)) ∙ p) (sym (on-own (byte bytes 1) refl own (requestIn (own .places) j)) ∙ q)
     where
-      go : (c : Bool) → cond c (isFitting bytes && matches (byte bytes 3) (byte bytes 4) (requestIn (own .places) i)) (matches (byte bytes 2) (byte bytes 3) (requestIn (own .places) i)) ≡ true → cond c (isFitting bytes && matches (byte bytes 3) (byte bytes 4) (requestIn (own .places) j)) (matches (byte bytes 2) (byte bytes 3) (requestIn (own .places) j)) ≡ true → i ≡ j
+      go : (c : Bool) → cond c (isFitting bytes && matches (byte bytes 3) (byte bytes 4) (requestIn (own .places) i)) (answers message (requestIn (own .places) i)) ≡ true → cond c (isFitting bytes && matches (byte bytes 3) (byte bytes 4) (requestIn (own .places) j)) (answers message (requestIn (own .places) j)) ≡ true → i ≡ j
       go true y z =
           places-of (byte bytes 1) .unique (byte bytes 3) (byte bytes 4) i j (both (isFitting bytes) (matches (byte bytes 3) (byte bytes 4) (requestIn (own .places) i)) y .1) (both (isFitting bytes) (matches (byte bytes 3) (byte bytes 4) (requestIn (own .places) j)) z .1)
-      go false y z = places-of (byte bytes 1) .unique (byte bytes 2) (byte bytes 3) i j y z
+      go false y z =
+          places-of (byte bytes 1) .unique (message .byte2 .0) (message .byte3) i j (answers-matches message (requestIn (own .places) i) y) (answers-matches message (requestIn (own .places) j) z)
 
   -- another serial, in the words of the documents
   swapped : (n : ℕ) → (swaps n (view n st) given ≡ true) ↔ Swaps st bytes n
@@ -357,8 +381,7 @@ module _ (st : Station) (k : Reached st) (bytes : List ℕ) where
       let on : byte bytes 1 ≡ 255 = g .receiver in
       let here : Gives own report bytes n number = subst (λ (i : ℕ). Gives (view i st) report bytes n number) (sym on) g in
       let gives : given ≡ serialOf n number = given-exactly own report bytes n number .1 here in
-      let waits : Waits own (byte bytes 2) (byte bytes 3) = waits-at own (places-of (byte bytes 1) .all) (byte bytes 2) (byte bytes 3) (cc (here .byte2, here .byte3, here .waits)) in
-      let replied : isReply (x .answer) ≡ true = h .reply .1 (ap isError (g .byte2), waits) in
+      let replied : isReply (x .answer) ≡ true = h .reply .1 (ap isError (g .byte2), serial-answered own (places-of (byte bytes 1) .all) report bytes here) in
       record {
         result = serialRule (view n st) number;
         so = serial-case (view n st) number;
@@ -382,13 +405,36 @@ module _ (st : Station) (k : Reached st) (bytes : List ℕ) where
           let g = given-exactly own report bytes device number .0 q in
           absurd (n device number (subst (λ (i : ℕ). Gives (view i st) report bytes device number) (g .receiver) g))
 
+  -- where another ping waits it is not answered, since no other waits with its bytes 2 and 3
+  hidpp-other : {x : Result} → isPort (byte bytes 1) ≡ true → HidppAt own message x → OtherPing st bytes → (alsoAt st given (storedAt st (positionOf (byte bytes 1)) x) .answer ≡ carried stray message) × (alsoAt st given (storedAt st (positionOf (byte bytes 1)) x) .station ≡ st)
+  unfolding messageOf reportFrom
+  hidpp-other {x} d h o = go given refl
+    where
+      none : ¬ Answered own message
+      none w =
+          let is : w .0 ≡ o .place = places-of (byte bytes 1) .unique (byte bytes 2) (byte bytes 3) (w .0) (o .place) (answers-matches message (requestIn (own .places) (w .0)) (w .1)) (o .waits) in
+          o .differs (answers-exactly bytes (requestIn (own .places) (o .place)) .0 (subst (λ (i : ℕ). answers message (requestIn (own .places) i) ≡ true) is (w .1)) .ping (o .byte2) (o .function1))
+
+      so : (x .answer ≡ carried stray message) × (x .port ≡ own)
+      so = h .other (o .place, o .waits) (ap isError (o .byte2)) none
+
+      go : (g : Given) → given ≡ g → (alsoAt st g (storedAt st (positionOf (byte bytes 1)) x) .answer ≡ carried stray message) × (alsoAt st g (storedAt st (positionOf (byte bytes 1)) x) .station ≡ st)
+      go noSerial q =
+          (so .0, ap (λ (p : Port). withPort st (positionOf (byte bytes 1)) p) (so .1) ∙ same-port st (positionOf (byte bytes 1)))
+      go (serialOf device number) q =
+          absurd (let z : 0x83 ≡ 0 = sym (given-exactly own report bytes device number .0 q .byte2) ∙ o .byte2 in omega arith)
+
   hidpp-done : {x : Result} → readRule bytes ≡ reading.hidpp report → isPort (byte bytes 1) ≡ true → HidppAt own message x → takenDrops (x .answer) ≡ 0 → Done (alsoAt st given (storedAt st (positionOf (byte bytes 1)) x) .answer) (alsoAt st given (storedAt st (positionOf (byte bytes 1)) x) .station)
   unfolding messageOf reportFrom
   hidpp-done {x} e d h none =
       let read : isHidppRead (readRule bytes) ≡ true = ap isHidppRead e in
       let a = hidpp-answer x given in
       record {
-        replies = (λ q. (read, h .reply .0 (sym (a .0) ∙ q)), λ q. a .0 ∙ h .reply .1 (q .1));
+        replies = (
+          λ q. let w = h .reply .0 (sym (a .0) ∙ q) in (read, (w .0, (w .1 .0, answers-exactly bytes (requestIn (own .places) (w .1 .0)) .0 (w .1 .1)))),
+          λ q. a .0 ∙ h .reply .1 (q .1 .0, (q .1 .1 .0, answers-exactly bytes (requestIn (own .places) (q .1 .1 .0)) .1 (q .1 .1 .1))),
+        );
+        other-ping = hidpp-other d h;
         fails = (λ q. (read, h .failure .0 (sym (a .1) ∙ q)), λ q. a .1 ∙ h .failure .1 (q .1));
         ends = λ n g i. subst (λ (y : Read). requestIn (view n (alsoAt st given (storedAt st (positionOf (byte bytes 1)) x) .station) .places) i ≡ cond (readEnds own y bytes n (view n st) (requestIn (view n st .places) i)) emptyPlace (requestIn (view n st .places) i)) (sym e) (hidpp-places d h given refl n g i);
         one = λ q i j y z. hidpp-one i j (subst (λ (t : Read). readEnds own t bytes (byte bytes 1) own (requestIn (own .places) i) ≡ true) e y) (subst (λ (t : Read). readEnds own t bytes (byte bytes 1) own (requestIn (own .places) j) ≡ true) e z);
@@ -405,6 +451,7 @@ module _ (st : Station) (k : Reached st) (bytes : List ℕ) where
         replies = (λ q. absurd (false≢true (sym (h .reply) ∙ q)), λ q. absurd (true≢false (sym (q .0) ∙ read)));
         fails = (λ q. absurd (false≢true (sym (h .failure) ∙ q)), λ q. absurd (true≢false (sym (q .0) ∙ read)));
         ends = λ n g i. subst (λ (y : Read). requestIn (view n (withPort st (positionOf (byte bytes 1)) (x .port)) .places) i ≡ cond (readEnds (view (byte bytes 1) st) y bytes n (view n st) (requestIn (view n st .places) i)) emptyPlace (requestIn (view n st .places) i)) (sym e) (ends-at (byte bytes 1) n (x .port) d g (λ j p r. makesFresh p (byte bytes 2) bytes && not (isEmpty r)) (h .place) i);
+        other-ping = λ o. absurd (true≢false (sym (o .read) ∙ read));
         one = λ q. absurd (true≢false (sym q ∙ read));
         told = λ q. absurd (true≢false (sym q ∙ read));
         untold = λ n. none;

@@ -20,13 +20,14 @@ use Rattle.port.specs.Waiting as waiting
 use Rattle.port.specs.Waiting.{waitingAt, endedAt}
 use Rattle.port.specs.Answers.{reply, Result}
 use Rattle.hidpp.specs.declared.Message.{Message}
+use Rattle.hidpp.specs.Matching.{answers}
 use Rattle.hidpp.specs.HidppTaking.{carried, named2, named3, code}
 use Rattle.serial.specs.Serials.{parameterFor, SerialResult}
-use Rattle.reach.specs.ListsLaws.{found-passes, sum-set, each-replicate}
+use Rattle.reach.specs.ListsLaws.{sum-set, each-replicate}
 use Rattle.reach.specs.Sound.{SoundPlaces}
 use Rattle.reach.specs.SoundLaws.{empty-fails, reply-records, error-records, event-records}
-use Rattle.reach.specs.CallCases.{Waits, failedPlace, repliedPlace, HidppCase, givesFailed, givesReply, givesStray, givesPlain, givesEvent, repliedPort, SerialCase, keepsNone, firstSerial, sameSerial, otherSerial, DjCase, djRefused, radioTaken, unpairs, pairedSame, pairedNew, linkSet, otherNotice, CancelCase, refused13, cancelDone, Placed}
-use Rattle.reach.specs.CallCasesLaws.{and-false, not-so, waits-found}
+use Rattle.reach.specs.CallCases.{Waits, Answered, failedPlace, repliedPlace, HidppCase, givesFailed, givesReply, givesStray, givesPlain, givesEvent, repliedPort, SerialCase, keepsNone, firstSerial, sameSerial, otherSerial, DjCase, djRefused, radioTaken, unpairs, pairedSame, pairedNew, linkSet, otherNotice, CancelCase, refused13, cancelDone, Placed}
+use Rattle.reach.specs.CallCasesLaws.{and-false, not-so, passes-there, none-answers, answers-matches, answered-waits}
 use Rattle.reach.specs.Ends.{Way, byReply, byError, byExpiry, byCancel, byDrop, wayNumber, isWay, Ending, nothing, one, dropped, expired, takeEnding, cancelEnding, endsBy, oneIf, endedBy, endedInAll, waitingOn}
 
 -- sums over the places
@@ -172,9 +173,13 @@ module _ (n : ℕ) (p q : Port) where
 
 -- where a request waits
 pub waits-there : (p : Port) → Placed p → (byte2 byte3 : ℕ) → Waits p byte2 byte3 → (waitingAt p byte2 byte3 < length (p .places)) × (matches byte2 byte3 (requestIn (p .places) (waitingAt p byte2 byte3)) ≡ true)
-waits-there p placed byte2 byte3 w =
-    let h : waitingAt p byte2 byte3 < length (p .places) = omega (arith, placed, waits-found p placed byte2 byte3 w) in
-    (h, found-passes (matches byte2 byte3) emptyPlace (p .places) h)
+waits-there p placed byte2 byte3 = passes-there p placed (matches byte2 byte3) (empty-fails byte2 byte3)
+
+-- one request at most waits with the report's bytes 2 and 3: the one that it answers is found in either search
+pub answered-place : (p : Port) → SoundPlaces (p .places) → (m : Message) → Answered p m → repliedPlace p m ≡ waitingAt p (m .byte2 .0) (m .byte3)
+answered-place p s m w =
+    let there = passes-there p (s .all) (answers m) (none-answers m) w in
+    s .unique (m .byte2 .0) (m .byte3) (repliedPlace p m) (waitingAt p (m .byte2 .0) (m .byte3)) (answers-matches m (requestIn (p .places) (repliedPlace p m)) (there .1)) (waits-there p (s .all) (m .byte2 .0) (m .byte3) (answered-waits p m w) .1)
 
 -- what matches waits
 pub matched-waits : (byte2 byte3 : ℕ) (r : Request) → matches byte2 byte3 r ≡ true → isEmpty r ≡ false
@@ -242,10 +247,10 @@ module _ (n : ℕ) (way : Way) (byte2 byte3 : ℕ) (p q : Port) (s : SoundPlaces
 
 -- a HID++ report, a DJ report and a cancel at their ports
 module _ (p : Port) (s : SoundPlaces (p .places)) where
-  pub reply-ends : (bytes : List ℕ) (m : Message) (count : ℕ) → Waits p (m .byte2 .0) (m .byte3) → EndingAt (m .device .0) (takeEnding (m .device .0) bytes (carried (reply count) m)) p (repliedPort p m)
+  pub reply-ends : (bytes : List ℕ) (m : Message) (count : ℕ) → Answered p m → EndingAt (m .device .0) (takeEnding (m .device .0) bytes (carried (reply count) m)) p (repliedPort p m)
   unfolding endedAt withPlaces
   reply-ends bytes m count h =
-      simp (eq-eqb (m .device .0) (m .device .0) refl) (one-ends (m .device .0) byReply (m .byte2 .0) (m .byte3) p (repliedPort p m) s h (reply-records (endedAt p (repliedPlace p m)) m (requestIn (p .places) (repliedPlace p m)) .places))
+      simp (eq-eqb (m .device .0) (m .device .0) refl) (one-ends (m .device .0) byReply (m .byte2 .0) (m .byte3) p (repliedPort p m) s (answered-waits p m h) (reply-records (endedAt p (repliedPlace p m)) m (requestIn (p .places) (repliedPlace p m)) .places ∙ ap (λ (place : ℕ). set (p .places) place emptyPlace) (answered-place p s m h)))
 
   pub hidpp-ends : (bytes : List ℕ) {m : Message} {r : Result} → HidppCase p m r → EndingAt (m .device .0) (takeEnding (m .device .0) bytes (r .answer)) p (r .port)
   unfolding endedAt withPlaces

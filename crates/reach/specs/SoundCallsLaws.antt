@@ -36,22 +36,22 @@ allowed byte2 byte3 ticks params e =
 
 module _ (position : ℕ) (p : Port) (s : SoundPort position p) where
   -- one request ends
-  ended : (byte2 byte3 : ℕ) (q : Port) → Records (endedAt p (waitingAt p byte2 byte3)) q → SoundPort position q
+  ended : (place : ℕ) (q : Port) → Records (endedAt p place) q → SoundPort position q
   unfolding endedAt withPlaces
-  ended byte2 byte3 q e =
-      records-sound (endedAt p (waitingAt p byte2 byte3)) q e (record {
+  ended place q e =
+      records-sound (endedAt p place) q e (record {
         receiver = s .receiver;
         unpaired = s .unpaired;
         indexes = s .indexes;
-        waiting = sound-ended (s .waiting) (waitingAt p byte2 byte3);
+        waiting = sound-ended (s .waiting) place;
       })
 
   pub hidpp-sound : {m : Message} {r : Result} → HidppCase p m r → SoundPort position (r .port)
   unfolding endedAt withPlaces
   hidpp-sound {m} {r} (givesFailed h) =
-      ended (named2 m) (named3 m) (r .port) (error-records (endedAt p (failedPlace p m)) (m .byte2 .0) (named2 m) (named3 m) (code m))
+      ended (failedPlace p m) (r .port) (error-records (endedAt p (failedPlace p m)) (m .byte2 .0) (named2 m) (named3 m) (code m))
   hidpp-sound {m} {r} (givesReply h) =
-      ended (m .byte2 .0) (m .byte3) (r .port) (reply-records (endedAt p (repliedPlace p m)) m (requestIn (p .places) (repliedPlace p m)))
+      ended (repliedPlace p m) (r .port) (reply-records (endedAt p (repliedPlace p m)) m (requestIn (p .places) (repliedPlace p m)))
   hidpp-sound (givesStray h) = s
   hidpp-sound (givesPlain h) = s
   hidpp-sound {m} {r} (givesEvent h) = records-sound p (r .port) (event-records p m) s
@@ -107,4 +107,4 @@ module _ (position : ℕ) (p : Port) (s : SoundPort position p) where
   pub cancel-sound : {byte2 byte3 : ℕ} {r : waiting.CancelResult} → CancelCase p byte2 byte3 r → SoundPort position (r .port)
   unfolding endedAt withPlaces
   cancel-sound (refused13 n) = s
-  cancel-sound {byte2} {byte3} {r} (cancelDone w) = ended byte2 byte3 (r .port) same
+  cancel-sound {byte2} {byte3} {r} (cancelDone w) = ended (waitingAt p byte2 byte3) (r .port) same

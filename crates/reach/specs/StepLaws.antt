@@ -45,8 +45,8 @@ use Rattle.reach.specs.ListsLaws.{found-passes, sum-set, after-map}
 use Rattle.reach.specs.Sound.{SoundPort, Reached}
 use Rattle.reach.specs.SoundLaws.{sound-ticks, sound-fresh}
 use Rattle.reach.specs.SoundCallsLaws.{allowed, hidpp-sound, serial-sound, dj-sound, request-sound, cancel-sound}
-use Rattle.reach.specs.CallCases.{Waits, Placed, HidppCase, givesReply, gives, repliedPort, SerialCase, RequestCase, requestRefused, accepted, StepCase, unread, listEmpty, hidppAtPort, serialAtPort, djAtPort, request5, requestAtPort, cancel5, cancelAtPort, tickAllPorts, writeOnly, AllPlaced}
-use Rattle.reach.specs.CallCasesLaws.{and-false, waits-at, empty-place, step-case}
+use Rattle.reach.specs.CallCases.{Answered, Placed, HidppCase, givesReply, gives, repliedPort, SerialCase, RequestCase, requestRefused, accepted, StepCase, unread, listEmpty, hidppAtPort, serialAtPort, djAtPort, request5, requestAtPort, cancel5, cancelAtPort, tickAllPorts, writeOnly, AllPlaced}
+use Rattle.reach.specs.CallCasesLaws.{and-false, serial-answered, empty-place, step-case}
 use Rattle.reach.specs.Ends.{isTick, takeEnding, Way, byReply, byError, byExpiry, byCancel, byDrop, isWay, Ending, endingOf, nothing, dropped, endsBy, oneIf, begunOn, Fate, stays, lowered, filled, emptied, waitingOn, EndsAt, endedIn, begunIn, Accounted}
 use Rattle.reach.specs.EndsLaws.{Elsewhere, sum-zero, Change, same, empties, EndingAt, elsewhere as ends-elsewhere, reply-ends, hidpp-ends, serial-ends, dj-ends, cancel-ends, hidpp-apart, dj-apart, cancel-apart}
 use Rattle.reach.specs.Fields.{Field, places, is, takeLists, serialLists, ChangesListed, Same}
@@ -273,13 +273,13 @@ module _ (st : Station) (k : Reached st) where
     on-serial =
         let s = sound-at (r .device) in
         let p = view (r .device) st in
-        let waits : Waits p (r .byte2) (r .byte3) = waits-at p (s .waiting .all) (r .byte2) (r .byte3) (cc (g .byte2, g .byte3, g .waits)) in
-        let replies : HidppCase p message (gives (carried (reply 0) message) (repliedPort p message)) = givesReply (ap isError (g .byte2), waits) in
+        let answered : Answered p message = serial-answered p (s .waiting .all) r bytes g in
+        let replies : HidppCase p message (gives (carried (reply 0) message) (repliedPort p message)) = givesReply (ap isError (g .byte2), answered) in
         let c = take bytes in
         record {
           reached = reached-with (withPort st (positionOf (r .device)) (repliedPort p message)) (reached-with st k (positionOf (r .device)) (position-within (r .device)) (repliedPort p message) (hidpp-sound _ _ s replies)) (positionOf device) (position-within device) (x .port) (serial-sound _ _ (sound-at device) h);
           ends = λ n i. two-ports (λ j y z. EndsAt j c (taken answer) y z) (r .device) device n (repliedPort p message) (x .port) (fits .0) (device-port device (g .named)) i
-              (ends-only (r .device) c (taken answer) refl refl (reply-ends p (s .waiting) bytes message (x .dropped) waits))
+              (ends-only (r .device) c (taken answer) refl refl (reply-ends p (s .waiting) bytes message (x .dropped) answered))
               (ends-only device c (taken answer) refl refl (subst (λ (y : Ending). EndingAt device y (view device st) (x .port)) (sym drops-there) (serial-ends (view device st) (sound-at device .waiting) device number h)))
               (λ y z. ends-only n c (taken answer) refl refl (ends-elsewhere n (view n st) (view n st) (takeEnding n bytes answer) (drops-elsewhere n y z) refl));
           changes = λ n i. two-ports (λ j y z. ChangesListed j c (taken answer) (view receiver st) y z) (r .device) device n (repliedPort p message) (x .port) (fits .0) (device-port device (g .named)) i

@@ -15,7 +15,8 @@ use Rattle.port.specs.declared.Port.{Port}
 use Rattle.port.specs.Answers.{Answer, refused, reply, stray, plain, event, failed, radio, notice, Result}
 use Rattle.port.specs.Waiting as waiting
 use Rattle.hidpp.specs.declared.Message.{Message}
-use Rattle.hidpp.specs.HidppTaking.{messageOf, isError, errorFits, named2, named3, isMajor1, errorRule, replyRule, featureRule, unaskedRule, takeHidpp}
+use Rattle.hidpp.specs.HidppTaking.{messageOf, takeHidpp}
+use Rattle.hidpp.specs.HidppTakingLaws.{of-each-answer}
 use Rattle.serial.specs.Serials.{Given, noSerial, serialOf, givenBy, serialRule}
 use Rattle.dj.specs.DjTaking.{isDeclared, wpidOf, isPairedWith, radioRule, unpairedRule, pairedRule, linkRule, otherRule, takeDj}
 use Rattle.request.specs.Requesting.{isForbidden, RequestAt, refusedAt, waitingRequest, requestBy, requestAt}
@@ -63,17 +64,7 @@ module _ (p : Port) where
     refuses : {number : ℕ} → takeForNone (refused number) ≡ false → TakeKind (record { answer = refused number; port = p })
 
   hidpp-kind : (m : Message) → Answered (takeHidpp p m .answer)
-  unfolding takeHidpp errorRule replyRule unaskedRule featureRule
-  hidpp-kind m =
-      by-case AnsweredAt (isError (m .byte2 .0))
-      (λ e. by-case AnsweredAt (errorFits m && waiting.isFound (waiting.waitingAt p (named2 m) (named3 m))) (λ q. (refl, refl)) (λ q. (refl, refl)))
-      (λ e. by-case AnsweredAt (waiting.isFound (waiting.waitingAt p (m .byte2 .0) (m .byte3))) (λ q. (refl, refl))
-      (λ q. by-case AnsweredAt (inRange 0x80 (m .byte2 .0) 0x83) (λ z. (refl, refl))
-      (λ z. by-case AnsweredAt (inRange 0x40 (m .byte2 .0) 0x7F) (λ y. (refl, refl))
-      (λ y. by-case AnsweredAt (isFeature (m .byte2 .0))
-      (λ x. by-case AnsweredAt (isMajor1 (p .version)) (λ w. (refl, refl))
-      (λ w. by-case AnsweredAt (eqb (softwareId (m .byte3)) 0) (λ v. (refl, refl)) (λ v. (refl, refl))))
-      (λ x. (refl, refl))))))
+  hidpp-kind m = of-each-answer Answered p m (refl, refl) (refl, refl) (refl, refl) (refl, refl) (refl, refl)
 
   dj-kind : (r : Report) (bytes : List ℕ) → TakeKind (takeDj p r bytes)
   unfolding takeDj radioRule unpairedRule pairedRule linkRule otherRule
