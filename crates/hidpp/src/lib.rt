@@ -384,10 +384,10 @@ fn is_answer(m: Message, request: Request) -> bool
     if !port::is_match(request, m.byte2, m.byte3) {
         return false;
     }
-    if is_ping(m.byte2, m.byte3) {
-        return m.first.2 == request.first.2;
+    if !is_ping(m.byte2, m.byte3) {
+        return true;
     }
-    true
+    m.first.2 == request.first.2
 }
 
 // The lowest place whose request a reply answers, or port::PLACES.

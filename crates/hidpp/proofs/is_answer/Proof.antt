@@ -9,10 +9,10 @@ returns : tie.Need-returns
 returns c = simp (sym (c .before .is-match .ensures) ∙ not-true _ (c .if1 .taken))
 
 returns-2 : tie.Need-returns-2
-returns-2 c = simp (sym (c .before .before .before .before .before .is-match .ensures) ∙ not-false _ (c .before .before .before .before .if1 .left), sym (c .before .before .before .is-ping .ensures) ∙ c .before .before .if2 .taken)
+returns-2 c = simp (sym (c .before .before .before .is-match .ensures) ∙ not-false _ (c .before .before .if1 .left), sym (c .before .is-ping .ensures) ∙ not-true _ (c .if2 .taken))
 
 returns-3 : tie.Need-returns-3
-returns-3 c = simp (sym (c .before .before .before .is-match .ensures) ∙ not-false _ (c .before .before .if1 .left), sym (c .before .is-ping .ensures) ∙ c .if2 .left)
+returns-3 c = simp (sym (c .before .before .before .before .before .is-match .ensures) ∙ not-false _ (c .before .before .before .before .if1 .left), sym (c .before .before .before .is-ping .ensures) ∙ not-false _ (c .before .before .if2 .left))
 
 pub is-answer-spec : {M : Type 1} → statement M
 is-answer-spec =
