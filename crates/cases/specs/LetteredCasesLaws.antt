@@ -11,7 +11,7 @@ use Rattle.port.specs.Places.{firstAt, sumOver}
 use Rattle.port.specs.Ticks.{afterTick, tickRule}
 use Rattle.port.specs.Waiting.{endedAt, roomFor}
 use Rattle.hidpp.specs.HidppRecords.{indexFrom, withFoundFeature, withBatteryFrom, afterReply, afterError, afterBatteryEvent, afterWirelessEvent, afterEvent}
-use Rattle.hidpp.specs.HidppTaking.{messageOf, errorRule, replyRule, featureRule, unaskedRule, takeHidpp}
+use Rattle.hidpp.specs.HidppTaking.{messageOf, errorRule, replyRule, featureRule, unaskedRule, unansweredRule, takeHidpp}
 use Rattle.serial.specs.Serials.{givenBy}
 use Rattle.dj.specs.DjTaking.{radioRule, unpairedRule, pairedRule, linkRule, otherRule, takeDj}
 use Rattle.request.specs.Requesting.{waitingRequest, requestBy, requestAt}
@@ -21,7 +21,7 @@ use Rattle.station.specs.StationCalls.{requestRule, tickedPort, endedOn, tickAl
 use Rattle.cases.specs.LetteredCases.{nineLent, waitingPort, device2, ping, pinged, pairing, paired, power, ask, four, LetteredCases}
 
 pub lettered-cases : LetteredCases
-unfolding nineLent waitingPort device2 ping pinged pairing paired power ask four lengthOf tableLength payloadLength reportFrom hidppRule djRule familyRule readRule isForbiddenFrame writing.frameAt writing.switchRule mouse.mouseRule mouse.signed freshPort madeFresh emptyPlace withVersion withBattery withFeatures withPlaces withLink withReports withPairing firstAt sumOver afterTick tickRule endedAt roomFor indexFrom withFoundFeature withBatteryFrom afterReply afterError afterBatteryEvent afterWirelessEvent afterEvent messageOf errorRule replyRule featureRule unaskedRule takeHidpp givenBy radioRule unpairedRule pairedRule linkRule otherRule takeDj waitingRequest requestBy requestAt positionOf freshStation withPort takeBy takeRule requestRule tickedPort endedOn tickAll
+unfolding nineLent waitingPort device2 ping pinged pairing paired power ask four lengthOf tableLength payloadLength reportFrom hidppRule djRule familyRule readRule isForbiddenFrame writing.frameAt writing.switchRule mouse.mouseRule mouse.signed freshPort madeFresh emptyPlace withVersion withBattery withFeatures withPlaces withLink withReports withPairing firstAt sumOver afterTick tickRule endedAt roomFor indexFrom withFoundFeature withBatteryFrom afterReply afterError afterBatteryEvent afterWirelessEvent afterEvent messageOf errorRule replyRule featureRule unaskedRule unansweredRule takeHidpp givenBy radioRule unpairedRule pairedRule linkRule otherRule takeDj waitingRequest requestBy requestAt positionOf freshStation withPort takeBy takeRule requestRule tickedPort endedOn tickAll
 lettered-cases =
     record {
       a = refl;

@@ -2,3 +2,5 @@ pub mod LetteredCases
 pub mod LetteredCasesLaws
 pub mod SerialCases
 pub mod SerialCasesLaws
+pub mod PingCases
+pub mod PingCasesLaws

@@ -11,7 +11,9 @@ use Rattle.report.specs.Sizes.{byte, hidppStart}
 use Rattle.report.specs.Reading.{reportFrom, readRule}
 use Rattle.port.specs.Records.{emptyPlace, requestIn}
 use Rattle.port.specs.Places.{isEmpty}
+use Rattle.port.specs.Answers.{stray}
 use Rattle.port.specs.PortContracts.{takenOf}
+use Rattle.hidpp.specs.HidppTaking.{messageOf, carried}
 use Rattle.serial.specs.Giving.{Gives}
 use Rattle.station.specs.declared.Station.{Station}
 use Rattle.station.specs.declared.TakeResult.{TakeResult}
@@ -31,7 +33,7 @@ use Rattle.reach.specs.Sound.{Reached}
 use Rattle.reach.specs.CallCases.{AllPlaced}
 use Rattle.reach.specs.RefusalTable.{ByTheTable}
 use Rattle.reach.specs.Complete.{Complete}
-use Rattle.reach.specs.Completion.{isReply, isFailure, isHidppRead, Replies, Fails, Swaps, Told, endsIn}
+use Rattle.reach.specs.Completion.{isReply, isFailure, isHidppRead, Replies, OtherPing, Fails, Swaps, Told, endsIn}
 use Rattle.reach.specs.Ends.{EndsAt, Accounted}
 use Rattle.reach.specs.Fields.{ChangesListed}
 use Rattle.encoded.specs.declared.RunResult.{RunResult}
@@ -53,8 +55,10 @@ pub record Demands : Type 0 where
   pub bytes-kept : (st : Station) (c : Call) (o : Outcome) → Ensured st c o → isRefusal (o .answer) ≡ true → (o .read ≡ readOf c) × (o .lent ≡ lentOf c)
   -- Demand 2. Without a station, reports are read, frames are written and movements are found as the rules say
   pub without-station : WithoutStation
-  -- A reply completes a request exactly when one waits on the device that byte 1 names with the same bytes 2 and 3
+  -- A reply completes a request exactly when one waits on the device that byte 1 names with the same bytes 2 and 3 and, of a ping (byte 2 = 0, function 1), with the same third parameter
   pub replies : (st : Station) → Reached st → (bytes : List ℕ) (r : TakeResult) → Ensured st (take bytes) (takeStep bytes (takeOutcome r)) → (isReply (takenOf (r .answer)) ≡ true) ↔ Replies st bytes
+  -- Where a ping waits there with the same bytes 2 and 3, and its third parameter differs, the report is stray, whatever the version, and changes nothing
+  pub other-pings : (st : Station) → Reached st → (bytes : List ℕ) (r : TakeResult) → Ensured st (take bytes) (takeStep bytes (takeOutcome r)) → OtherPing st bytes → (takenOf (r .answer) ≡ carried stray (messageOf (reportFrom hidppStart bytes) bytes)) × (r .station ≡ st)
   -- An error, exactly when one waits there with the two bytes that the error names, and its kind fits that request
   pub errors : (st : Station) → Reached st → (bytes : List ℕ) (r : TakeResult) → Ensured st (take bytes) (takeStep bytes (takeOutcome r)) → (isFailure (takenOf (r .answer)) ≡ true) ↔ Fails st bytes
   -- Each ends that one and no other: of every port, the place of the request that it answers is emptied, and every other place stays. DJ reports complete none, and drop all of a port's requests exactly at 0x40, and at 0x41 with another WPID or for a device that is not paired. A reply that gives another serial of a device drops all of that device's requests beside the one that it ends

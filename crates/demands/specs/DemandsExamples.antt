@@ -8,9 +8,9 @@ use lib.ListN.{length, getD, replicate}
 use lib.Dec.{eqb}
 use denote.Ref.{RefT, now}
 use Rattle.report.specs.Ports.{isDevice, isPort}
-use Rattle.report.specs.Sizes.{byte, hidppStart}
+use Rattle.report.specs.Sizes.{byte, hidppStart, lengthOf}
 use Rattle.report.specs.Reading as reading
-use Rattle.report.specs.Reading.{Read, reportFrom, readRule}
+use Rattle.report.specs.Reading.{Read, reportFrom, hidppRule, familyRule, readRule}
 use Rattle.frame.specs.Writing.{requestFrameRule, switchRule, getPairedRule, ledRule}
 use Rattle.mouse.specs.Movement.{mouseRule}
 use Rattle.frame.specs.declared.Written.{Written}
@@ -22,9 +22,10 @@ use Rattle.port.specs.declared.Serial.the-variants.{Unknown, Known}
 use Rattle.port.specs.declared.Version.the-variants as versions
 use Rattle.port.specs.declared.Battery.the-variants as batteries
 use Rattle.port.specs.Records.{emptyPlace, freshPort, madeFresh, requestIn, withPairing, withSerial}
-use Rattle.port.specs.Places.{isEmpty}
+use Rattle.port.specs.Places.{isEmpty, matches}
 use Rattle.port.specs.Answers as answers
 use Rattle.port.specs.PortContracts.{takenOf}
+use Rattle.hidpp.specs.HidppTaking.{messageOf}
 use Rattle.serial.specs.Serials.{SerialResult}
 use Rattle.serial.specs.Giving.{Gives}
 use Rattle.blotterfinch.specs.declared.Report.{Report}
@@ -146,6 +147,33 @@ module _ (d : Demands) where
 
   c-moves : (κ : List ℕ) (payload : RefT (List ℕ)) (r : Movement) → mouse-reads.Learnt (κ, tt) (payload, tt) r (payload, tt) → r ≡ cMovement (mouseRule (now payload))
   c-moves = d .without-station .mouse
+
+  -- a ping that waits at device 2 is answered by a report with its third parameter; one with another leaves the station
+  module _ (st : Station) (k : Reached st) (place : ℕ) (is : requestIn (portFor st 2 .places) place ≡ record { byte2 = record { 0 = 0x00 }; byte3 = 0x11; first = record { 0 = 0x00; 1 = 0x00; 2 = 0x5B }; ticks = 50 }) (r : TakeResult) where
+    abbrev pong : ℕ → List ℕ
+    pong third = 0x10 ∷ 0x02 ∷ 0x00 ∷ 0x11 ∷ 0x02 ∷ 0x00 ∷ third ∷ []
+
+    ping-answered : Ensured st (take (pong 0x5B)) (takeStep (pong 0x5B) (takeOutcome r)) → isReply (takenOf (r .answer)) ≡ true
+    unfolding readRule familyRule hidppRule reportFrom lengthOf
+    ping-answered e =
+        d .replies st k (pong 0x5B) r e .1 (refl, (refl, (place, record {
+          waits = λ z. let y : _≡_ {A = ℕ} 50 0 = sym (ap (λ (x : Request). x .ticks) is) ∙ z in omega arith;
+          same2 = ap (λ (x : Request). x .byte2 .0) is;
+          same3 = ap (λ (x : Request). x .byte3) is;
+          ping = λ zero one. sym (ap (λ (x : Request). x .first .2) is);
+        })))
+
+    late-ping : Ensured st (take (pong 0x5A)) (takeStep (pong 0x5A) (takeOutcome r)) → (takenOf (r .answer) ≡ answers.stray (record { port = 2; byte2 = 0x00; byte3 = 0x11; start = 4; size = 3 })) × (r .station ≡ st)
+    unfolding readRule familyRule hidppRule reportFrom lengthOf messageOf
+    late-ping e =
+        d .other-pings st k (pong 0x5A) r e (record {
+          read = refl;
+          byte2 = refl;
+          function1 = refl;
+          place = place;
+          waits = ap (λ (x : Request). matches 0x00 0x11 x) is;
+          differs = λ z. let y : _≡_ {A = ℕ} 0x5A 0x5B = z ∙ ap (λ (x : Request). x .first .2) is in omega arith;
+        })
 
   module _ (st : Station) (k : Reached st) (bytes : List ℕ) (r : TakeResult) (e : Ensured st (take bytes) (takeStep bytes (takeOutcome r))) where
     -- where one waits its reply completes it, and only there

@@ -71,6 +71,7 @@ demands =
       bytes-kept = λ st c o e r. let h = refused-keeps st c o e r in (h .read, h .lent);
       without-station = stateless;
       replies = λ st k bytes r e. taken st k bytes r e .replies;
+      other-pings = λ st k bytes r e. taken st k bytes r e .other-ping;
       errors = λ st k bytes r e. taken st k bytes r e .fails;
       ends = λ st k bytes r e. taken st k bytes r e .ends;
       at-most-one = λ st k bytes. complete .completes st k bytes .one;
