@@ -88,7 +88,8 @@ impl PortNumber {
         self.0
     }
 
-    fn position(self) -> usize {
+    /// Where `ALL` has it.
+    pub fn position(self) -> usize {
         if self == Self::RECEIVER {
             6
         } else {
