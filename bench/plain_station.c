@@ -89,13 +89,18 @@ static void set_battery(struct plain_port *port, const uint8_t *parameters)
     port->status = parameters[2];
 }
 
+static bool is_ping(uint8_t byte2, uint8_t byte3)
+{
+    return byte2 == 0 && byte3 >> 4 == PING;
+}
+
 /* The request is still in its place. */
 static void record_reply(struct plain_port *port, const struct plain_request *request,
                         const uint8_t *bytes)
 {
     uint8_t function = bytes[3] >> 4;
 
-    if (bytes[2] == 0 && function == PING) {
+    if (is_ping(bytes[2], bytes[3])) {
         set_version(port, bytes[4], bytes[5]);
     } else if (bytes[2] == 0 && function == GET_FEATURE) {
         int feature = feature_slot(request->first[0], request->first[1]);
@@ -171,7 +176,7 @@ static enum plain_kind take_error(struct plain_port *port, const uint8_t *bytes,
     if (request == NULL)
         return PLAIN_STRAY;
     end_request(request);
-    if (bytes[2] == ERROR_1 && bytes[5] == INVALID_SUB_ID && bytes[3] == 0 && bytes[4] >> 4 == PING)
+    if (bytes[2] == ERROR_1 && bytes[5] == INVALID_SUB_ID && is_ping(bytes[3], bytes[4]))
         set_version(port, 1, 0);
     answer->byte2 = bytes[3];
     answer->byte3 = bytes[4];
@@ -190,6 +195,9 @@ static enum plain_kind take_hidpp(struct plain_station *station, const uint8_t *
         return take_error(port, bytes, answer);
     request = waiting(port, bytes[2], bytes[3]);
     if (request != NULL) {
+        /* 02, Ask 2: a device repeats the third parameter of the ping that it answers. */
+        if (is_ping(bytes[2], bytes[3]) && bytes[6] != request->first[2])
+            return PLAIN_STRAY;
         record_reply(port, request, bytes);
         answer->dropped = record_serial(station, request, bytes);
         end_request(request);

@@ -92,8 +92,8 @@ static void add_take(struct sequence *sequence, uint8_t id, const uint8_t *rest,
 #define TAKE_REPORT(sequence, id, ...) \
     add_take(sequence, id, (const uint8_t[]){__VA_ARGS__}, sizeof(const uint8_t[]){__VA_ARGS__})
 
-static void add_request(struct sequence *sequence, uint8_t device, uint8_t byte2, uint8_t byte3,
-                        uint8_t first, uint8_t second)
+static uint8_t *add_request(struct sequence *sequence, uint8_t device, uint8_t byte2, uint8_t byte3,
+                            uint8_t first, uint8_t second)
 {
     uint8_t *call = add(sequence, REQUEST);
 
@@ -104,6 +104,7 @@ static void add_request(struct sequence *sequence, uint8_t device, uint8_t byte2
     call[5] = 255;
     call[CALL_HEAD] = first;
     call[CALL_HEAD + 1] = second;
+    return call;
 }
 
 static void add_cancel(struct sequence *sequence, uint8_t device, uint8_t byte2, uint8_t byte3)
@@ -286,6 +287,27 @@ static void add_random_serial(struct sequence *sequence)
     }
 }
 
+/* A ping, or what may be its reply: on three ports, with two software ids and one of two bytes. */
+static void add_random_ping(struct sequence *sequence)
+{
+    static const uint8_t ports[] = {1, 6, 0xFF};
+    uint8_t device = ports[rand() % 3], byte3 = (uint8_t)(0x11 + rand() % 2), byte = (uint8_t)(0x5A + rand() % 2);
+
+    if (rand() % 2 == 0)
+        add_request(sequence, device, 0x00, byte3, 0x00, 0x5A)[CALL_HEAD + 2] = byte;
+    else
+        TAKE_REPORT(sequence, rand() % 2 == 0 ? 0x10 : 0x11, device, 0x00, byte3, (uint8_t)(rand() % 3), 0x00, byte);
+}
+
+static void add_random_call(struct sequence *sequence)
+{
+    switch (rand() % 10) {
+    case 0: add_random_serial(sequence); break;
+    case 1: add_random_ping(sequence); break;
+    default: add_random(sequence); break;
+    }
+}
+
 static void compare(void)
 {
     enum { RANDOM_SCRIPTS = 20000 };
@@ -296,7 +318,7 @@ static void compare(void)
     for (int i = 0; i < RANDOM_SCRIPTS; i++) {
         sequence.calls = 0;
         while (sequence.calls < 200)
-            (rand() % 10 == 0 ? add_random_serial : add_random)(&sequence);
+            add_random_call(&sequence);
         add(&sequence, LIST);
         library.sum = blotterfinch_measure(sequence.bytes, sequence.calls * CALL_SIZE, library.buffer, BUFFER);
         plain.sum = plain_measure(sequence.bytes, sequence.calls * CALL_SIZE, plain.buffer, BUFFER);

@@ -117,11 +117,11 @@ function listing(answer,    i, n, text) {
 
 # ---- what a report's answer means
 
+# A stray report waits for the dump after it, which has what it did not answer.
 function taken(answer,    port) {
     port = value(answer, "port")
     if (first == "reply") { ways["replied"]++; ways["dropped"] += value(answer, "dropped"); explain(who(port) " replies: " replied(answer, port)) }
     else if (first == "error") { ways["failed"]++; explain(failed(answer, port)) }
-    else if (first == "stray") explain("no request waits for this from " who(port) ": " stray_text(port))
     else if (first == "plain") explain("notice from " who(port) ": " notice_text(answer))
     else if (first == "event") explain("event of " who(port) ": " event_text(answer, port))
     else if (first == "radio") explain("from " who(decimal(word[3])) ": " type_text(value(answer, "type")) ", " parameters(answer))
@@ -141,7 +141,7 @@ function replied(answer, port,    b2, b3, k, p) {
     k = key(port, b2, b3)
     p = parameters(answer)
     split(p, sides, " ")
-    if (b2 == "00" && b3 ~ /^1/) return "protocol version " decimal(sides[1]) "." decimal(sides[2]) ", ping data " sides[3]
+    if (is_ping(b2, b3)) return "protocol version " decimal(sides[1]) "." decimal(sides[2]) ", ping data " ping_data(p) " as asked"
     if (b2 == "00" && b3 ~ /^0/) return feature_name(asked[k]) (sides[1] == "00" ? " is not there" : " has index " decimal(sides[1]))
     if (b3 ~ /^0/ && feature_at(port, b2) == "1000") return "battery: " battery(sides[1], sides[2], sides[3])
     if (serial_of(port, b2, b3, asked[k]) && value(answer, "length") == 16 && sides[1] == substr(asked[k], 1, 2)) return told(answer, serial_of(port, b2, b3, asked[k]), sides[2] sides[3] sides[4] sides[5])
@@ -170,11 +170,26 @@ function error_text(kind, code) {
     return "which the documents do not name"
 }
 
-# Of a report that nothing waits for, its bytes are all there is.
-function stray_text(port,    b2) {
+# Of a report that nothing waits for, its bytes are all there is. Where a request with its bytes 2 and 3 waits, it is a
+# ping with other data. The line is the port's, of the dump after the report.
+function stray(line, port,    b2, b3, p, due) {
     b2 = toupper(word[4])
-    if (b2 == "8F" || b2 == "FF") return "error " toupper(word[7]) " to " asking(port, toupper(word[5]), toupper(word[6]), "") ", " error_text(b2, toupper(word[7]))
-    return "a reply to " asking(port, b2, toupper(word[5]), "")
+    b3 = toupper(word[5])
+    p = is_ping(b2, b3) ? parameters(last) : ""
+    due = waiting_with(line, b2, b3)
+    if (due != "") explain(who(port) " replies to a ping with ping data " ping_data(p) "; the one that waits has " ping_data(due) ", and goes on waiting")
+    else if (b2 == "8F" || b2 == "FF") explain("no request waits for this from " who(port) ": error " toupper(word[7]) " to " asking(port, b3, toupper(word[6]), "") ", " error_text(b2, toupper(word[7])))
+    else explain("no request waits for this from " who(port) ": a reply to " asking(port, b2, b3, p))
+}
+
+# The first three parameters of the request that waits with these bytes 2 and 3, or nothing.
+function waiting_with(line, b2, b3,    i, n, p) {
+    n = split(value(line, "places"), places, ",")
+    for (i = 1; i <= n; i++) {
+        split(places[i], p, ":")
+        if (p[1] == b2 && p[2] == b3) return p[3] " " p[4] " " p[5]
+    }
+    return ""
 }
 
 function notice_text(answer,    b2) {
@@ -214,10 +229,19 @@ function asking(port, b2, b3, p,    text) {
     b2 = toupper(b2)
     b3 = toupper(b3)
     if (b2 in register) text = register[b2] " " b3 (serial_of(port, b2, b3, p) ? " (serial of " who(serial_of(port, b2, b3, p)) ")" : "")
-    else if (b2 == "00" && b3 ~ /^1/) return "ping (protocol version)"
+    else if (is_ping(b2, b3)) return "ping (protocol version)" (p == "" ? "" : " with ping data " ping_data(p))
     else if (b2 == "00" && b3 ~ /^0/) return "index of " feature_name(p)
     else text = "function " decimal("0" substr(b3, 1, 1)) " of feature index " decimal(b2) (feature_at(port, b2) == "" ? "" : " (" name_of[feature_at(port, b2)] ")") ", software id " decimal("0" substr(b3, 2, 1))
     return text (p == "" ? "" : " with " p)
+}
+
+function is_ping(b2, b3) {
+    return b2 == "00" && b3 ~ /^1/
+}
+
+# Document 000's name for the third parameter of a ping, which the reply repeats.
+function ping_data(p) {
+    return substr(p, 7, 2)
 }
 
 # The device whose serial a request asks for, or 0.
@@ -285,6 +309,7 @@ function movement(answer) {
 
 function changed(line,    port, i, text, k) {
     port = value(line, "port")
+    if (first == "stray" && port == value(last, "port")) stray(line, port)
     if (first != "refused" && first != "no call")
         for (i = 1; i <= shown_count; i++) {
             k = shown[i]

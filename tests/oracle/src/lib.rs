@@ -5,6 +5,7 @@
 
 pub mod count;
 pub mod encoded;
+pub mod pings;
 pub mod random;
 pub mod script;
 pub mod serials;

@@ -1,5 +1,6 @@
-//! Replays scripts, makes random ones and counts the answers' kinds and the
-//! serials told; makes runs of encoded calls, random ones too.
+//! Replays scripts, makes random ones and counts the answers' kinds, the
+//! serials told and the pings answered; makes runs of encoded calls, random
+//! ones too.
 
 use std::ffi::{OsStr, OsString};
 use std::fs::File;
@@ -10,13 +11,14 @@ use oracle::count::Tally;
 use oracle::encoded::run_all;
 use oracle::random::{write_runs, write_script};
 use oracle::script::{replay, Failure};
-use oracle::serials;
+use oracle::{pings, serials};
 
 const USAGE: &str = "\
 usage: oracle replay [FILE]
        oracle random SEED COUNT
        oracle count FILE
        oracle serials FILE
+       oracle pings FILE
        oracle encoded-random SEED COUNT
        oracle encoded FILE";
 
@@ -29,6 +31,7 @@ fn main() -> ExitCode {
         [name, seed, count] if *name == "random" => random(seed, count),
         [name, file] if *name == "count" => count(file),
         [name, file] if *name == "serials" => count_serials(file),
+        [name, file] if *name == "pings" => count_pings(file),
         [name, seed, count] if *name == "encoded-random" => random_runs(seed, count),
         [name, file] if *name == "encoded" => run_file(file),
         _ => Err(USAGE.to_owned()),
@@ -88,10 +91,18 @@ fn count(file: &OsStr) -> Result<ExitCode, String> {
 }
 
 fn count_serials(file: &OsStr) -> Result<ExitCode, String> {
-    let tally = serials::Tally::read(open(file)?).map_err(|failure| match failure {
-        Failure::Input(error) | Failure::Output(error) => failed(&file.to_string_lossy(), &error),
-    })?;
+    let tally = serials::Tally::read(open(file)?).map_err(|failure| unread(file, failure))?;
     show(|output| tally.print(output), tally.is_complete())
+}
+
+fn count_pings(file: &OsStr) -> Result<ExitCode, String> {
+    let tally = pings::Tally::read(open(file)?).map_err(|failure| unread(file, failure))?;
+    show(|output| tally.print(output), tally.is_complete())
+}
+
+fn unread(file: &OsStr, failure: Failure) -> String {
+    let (Failure::Input(error) | Failure::Output(error)) = failure;
+    failed(&file.to_string_lossy(), &error)
 }
 
 /// Prints what was counted.

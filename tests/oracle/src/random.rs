@@ -49,8 +49,8 @@ pub struct Generator {
     focus: [u8; 2],
     /// Calls that a longer aim still needs, the next one last.
     plan: Vec<Step>,
-    /// Requests made of late, whether they still wait or not.
-    recent: Vec<(u8, Key)>,
+    /// Requests made of late with their ports, whether they still wait or not.
+    recent: Vec<(u8, Waiting)>,
 }
 
 const DJ_FRAME: usize = 15;
@@ -71,7 +71,7 @@ impl Generator {
         if self.rng.below(150) == 0 {
             self.focus = [0; 2].map(|_| self.rng.between(1, 6) as u8);
         }
-        if self.plan.is_empty() && self.rng.below(40) == 0 {
+        if self.plan.is_empty() && self.rng.below(25) == 0 {
             self.make_plan();
         }
         let step = if self.rng.chance(85) {
@@ -112,8 +112,20 @@ impl Generator {
 
     fn follow(&mut self, call: &Call) {
         make(&mut self.station, call);
-        if let Call::Request { port, key, .. } = call {
-            self.recent.push((*port, *key));
+        if let Call::Request {
+            port,
+            key,
+            parameters,
+            ..
+        } = call
+        {
+            let parameter = |index| parameters.get(index).copied().unwrap_or(0);
+            let request = Waiting {
+                key: *key,
+                parameters: [0, 1, 2].map(parameter),
+                ticks: 0,
+            };
+            self.recent.push((*port, request));
             if self.recent.len() > MOST_RECENT {
                 self.recent.remove(0);
             }

@@ -88,7 +88,8 @@ impl PortNumber {
         self.0
     }
 
-    fn position(self) -> usize {
+    /// Where `ALL` has it.
+    pub fn position(self) -> usize {
         if self == Self::RECEIVER {
             6
         } else {
@@ -150,7 +151,7 @@ impl Key {
         self.byte3 & 0x0F
     }
 
-    fn is_ping(self) -> bool {
+    pub fn is_ping(self) -> bool {
         self.byte2 == 0 && self.function() == 1
     }
 
@@ -165,6 +166,15 @@ pub struct Waiting {
     pub key: Key,
     pub parameters: [u8; 3],
     pub ticks: u8,
+}
+
+impl Waiting {
+    /// Whether a report with this key and these parameters is its reply.
+    /// 02, Ask 2: a ping is told from others with its key by the third
+    /// parameter, which the device sends back.
+    fn is_answered_by(&self, key: Key, parameters: &[u8]) -> bool {
+        self.key == key && (!key.is_ping() || self.parameters[2] == parameters[2])
+    }
 }
 
 #[derive(Clone, Copy, Debug, PartialEq, Eq)]
@@ -226,9 +236,13 @@ impl Port {
 
     /// Empties the place of the request with this key and returns the request.
     fn end(&mut self, key: Key) -> Option<Waiting> {
+        self.end_where(|waiting| waiting.key == key)
+    }
+
+    fn end_where(&mut self, is_meant: impl Fn(&Waiting) -> bool) -> Option<Waiting> {
         self.places
             .iter_mut()
-            .find(|place| place.is_some_and(|waiting| waiting.key == key))
+            .find(|place| place.as_ref().is_some_and(&is_meant))
             .and_then(Option::take)
     }
 
@@ -591,9 +605,13 @@ impl Port {
         if let Some(kind) = ErrorKind::from_byte2(key.byte2) {
             return self.take_error(kind, key, parameters);
         }
-        if let Some(request) = self.end(key) {
+        if let Some(request) = self.end_where(|waiting| waiting.is_answered_by(key, parameters)) {
             self.record_reply(&request, parameters);
             return (Outcome::Reply { dropped: 0 }, key);
+        }
+        // 02, Ask 2: the ping that waits asked with another third parameter.
+        if self.waits_for(key) {
+            return (Outcome::Stray, key);
         }
         let outcome = match key.byte2 {
             0x00..=0x3F => self.take_unrequested(key, parameters),

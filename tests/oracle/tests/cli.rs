@@ -81,8 +81,21 @@ fn serials_fails_where_something_never_occurs() {
 }
 
 #[test]
+fn pings_fails_where_something_never_occurs() {
+    let script = oracle(&["random", "5", "50000"], b"").stdout;
+    let path = file("answered.script", &script);
+    let output = oracle(&["pings", path.to_str().unwrap()], b"");
+    assert!(output.status.success());
+    let path = file("unanswered.script", b"tick\n");
+    let output = oracle(&["pings", path.to_str().unwrap()], b"");
+    assert!(!output.status.success());
+    let first = b"        0  ping answered; by port: 0 0 0 0 0 0 0\n";
+    assert!(output.stdout.starts_with(first));
+}
+
+#[test]
 fn strange_arguments_are_refused() {
-    let lines: [&[&str]; 7] = [
+    let lines: [&[&str]; 8] = [
         &[],
         &["play"],
         &["replay", "a", "b"],
@@ -90,6 +103,7 @@ fn strange_arguments_are_refused() {
         &["random", "x", "1"],
         &["count"],
         &["serials"],
+        &["pings"],
     ];
     for arguments in lines {
         let output = oracle(arguments, b"");

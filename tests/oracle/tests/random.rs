@@ -7,8 +7,8 @@ use std::collections::BTreeSet;
 use oracle::count::Tally;
 use oracle::random::{write_script, Generator};
 use oracle::script::{make, parse, Answer, Call, Line, LENT};
-use oracle::serials;
 use oracle::station::{asked_serial, Outcome, PortNumber, Station, Taken};
+use oracle::{pings, serials};
 
 fn script(seed: u64, count: u64) -> Vec<u8> {
     let mut script = Vec::new();
@@ -79,6 +79,16 @@ fn serials_are_told() {
         assert!(tally.is_complete(), "{tally:?}");
     }
     assert!(!serials::Tally::default().is_complete());
+}
+
+/// On every port, and nearly in every way.
+#[test]
+fn pings_are_answered() {
+    for seed in 1..=5 {
+        let tally = pings::Tally::read(&script(seed, 50_000)[..]).expect("memory can be read");
+        assert!(tally.is_complete(), "{tally:?}");
+    }
+    assert!(!pings::Tally::default().is_complete());
 }
 
 #[test]

@@ -21,6 +21,12 @@ pub enum Step {
     TellSerial(u8),
     /// A reply to the youngest request of the port.
     Reply(u8),
+    /// An error for it.
+    Fail(u8),
+    /// A cancel of it.
+    Cancel(u8),
+    /// A reply to some ping of the port, or nearly that.
+    AnswerPing(u8),
     Event(u8),
     Pair(u8),
     Unpair(u8),
@@ -32,10 +38,11 @@ pub enum Step {
 
 impl Generator {
     pub(super) fn make_plan(&mut self) {
-        let mut steps = match self.rng.below(13) {
+        let mut steps = match self.rng.below(19) {
             0 => self.clearing(),
             1..=3 => self.filling(),
             4..=7 => self.finding(),
+            8..=11 => self.pinging(),
             _ => self.telling(),
         };
         steps.reverse();
@@ -97,6 +104,36 @@ impl Generator {
         steps
     }
 
+    /// Pings of a port that end or go on waiting, are made anew with another
+    /// byte, and are answered or nearly so.
+    fn pinging(&mut self) -> Vec<Step> {
+        let port = match self.rng.between(1, 7) as u8 {
+            7 => PortNumber::RECEIVER.byte(),
+            device => device,
+        };
+        let mut steps = Vec::new();
+        for _ in 0..self.rng.between(2, 5) {
+            let pings = self.rng.pick(&[1, 1, 1, 2, 3]);
+            steps.extend(vec![Step::Ping(port); pings]);
+            match self.rng.below(12) {
+                0..=3 => steps.push(Step::Tick),
+                4 | 5 => steps.push(Step::Cancel(port)),
+                6 | 7 => steps.push(Step::Fail(port)),
+                8 => steps.push(Step::Unpair(port)),
+                9 => steps.push(Step::Reply(port)),
+                10 => steps.push(Step::Ping(self.device_or_receiver())),
+                _ => (),
+            }
+            steps.push(Step::Ping(port));
+            let answers = self.rng.between(1, 3);
+            steps.extend(vec![Step::AnswerPing(port); answers]);
+            if self.rng.chance(30) {
+                steps.push(Step::Dump);
+            }
+        }
+        steps
+    }
+
     /// The serial of a device several times, while requests wait there.
     fn telling(&mut self) -> Vec<Step> {
         let device = self.rng.between(1, 6) as u8;
@@ -106,7 +143,7 @@ impl Generator {
             steps.push(Step::Pair(device));
         }
         for _ in 0..self.rng.between(3, 6) {
-            let requests = self.rng.pick(&[0, 0, 0, 1, 2, 4]);
+            let requests = self.rng.pick(&[0, 0, 0, 0, 1, 2, 4]);
             steps.extend(vec![Step::Request(device); requests]);
             steps.push(Step::AskSerial(device));
             match self.rng.below(16) {
@@ -130,12 +167,17 @@ impl Generator {
                 let draft = self.fresh_draft(port);
                 fitting(draft)
             }
-            Step::Ping(port) => self.root_request(port, 1, [0, 0]),
-            Step::GetFeature(port, feature) => self.root_request(port, 0, feature.to_be_bytes()),
+            Step::Ping(port) => self.ask_version(port),
+            Step::GetFeature(port, feature) => {
+                self.planned_request(port, 0, 0, &feature.to_be_bytes())
+            }
             Step::AskBattery(port) => self.ask_battery(port),
             Step::AskSerial(device) => self.ask_serial(device),
             Step::TellSerial(device) => Call::Take(self.tell_serial(device)),
             Step::Reply(port) => Call::Take(self.reply_on(port)),
+            Step::Fail(port) => Call::Take(self.error_on(port)),
+            Step::Cancel(port) => self.cancel_on(port),
+            Step::AnswerPing(port) => Call::Take(self.answer_ping(port)),
             Step::Event(port) => Call::Take(self.event_on(port)),
             Step::Pair(port) => Call::Take(self.paired(port)),
             Step::Unpair(port) => Call::Take(self.dj(port, dj::UNPAIRED, &[])),
@@ -146,8 +188,19 @@ impl Generator {
         }
     }
 
-    fn root_request(&mut self, port: u8, function: u8, start: [u8; 2]) -> Call {
-        self.planned_request(port, 0, function, &start)
+    /// A ping with one of few software ids, so that they come again.
+    fn ask_version(&mut self, port: u8) -> Call {
+        let key = Key {
+            byte2: 0,
+            byte3: 0x10 + self.rng.pick(&[1, 1, 1, 2, 3, 15]),
+        };
+        let start = self.ping_parameters();
+        fitting(Draft {
+            port,
+            key,
+            ticks: self.rng.pick(&[1, 1, 1, 3, 9]),
+            parameters: self.parameters(key, &start),
+        })
     }
 
     /// Most often function 0; no other tells the battery.

@@ -66,10 +66,7 @@ impl Generator {
 
     /// A reply to the request in the highest place of the port.
     pub(super) fn reply_on(&mut self, port: u8) -> Vec<u8> {
-        let youngest = self
-            .port(port)
-            .and_then(|port| port.waiting().last().copied());
-        match youngest {
+        match self.youngest(port) {
             Some(waiting) => self.reply_to(port, &waiting),
             None => self.reply(),
         }
@@ -79,11 +76,7 @@ impl Generator {
         let battery = self.index_of(port, BATTERY_LEVEL_STATUS);
         let parameters = match (waiting.key.byte2, waiting.key.function()) {
             (0, 0) => vec![self.returned_index(port)],
-            (0, 1) => vec![
-                self.rng.pick(&[0, 1, 1, 1, 2, 2, 2, 4, 4, 255]),
-                self.rng.pick(&[0, 0, 1, 2, 5, 255]),
-                waiting.parameters[2],
-            ],
+            (0, 1) => self.ping_answer(port, waiting, 10),
             (byte2, _) if byte2 == battery => self.battery(),
             (0x80.., _) if waiting.key.byte3 == Key::PAIRING_INFORMATION.byte3 => {
                 self.pairing_information(waiting.parameters[0])
@@ -91,6 +84,94 @@ impl Generator {
             _ => vec![],
         };
         self.hidpp(port, waiting.key, &parameters)
+    }
+
+    /// A version and the ping's byte, its third parameter; this many times in
+    /// a hundred another byte.
+    fn ping_answer(&mut self, port: u8, ping: &Waiting, missed: usize) -> Vec<u8> {
+        let mut answer = vec![
+            self.rng.pick(&[0, 1, 1, 1, 2, 2, 2, 4, 4, 255]),
+            self.rng.pick(&[0, 0, 1, 2, 5, 255]),
+            ping.parameters[2],
+        ];
+        if self.rng.chance(missed) {
+            answer[2] = self.missed_byte(port, ping);
+            // The right byte may come at another place.
+            match self.rng.below(6) {
+                0 => answer[0] = ping.parameters[2],
+                1 => answer[1] = ping.parameters[2],
+                2 => answer.push(ping.parameters[2]),
+                _ => (),
+            }
+        }
+        answer
+    }
+
+    /// A byte that is near the ping's in the request, or is another ping's.
+    fn missed_byte(&mut self, port: u8, ping: &Waiting) -> u8 {
+        let [first, second, third] = ping.parameters;
+        let others = match self.rng.below(14) {
+            0 => vec![first],
+            1 => vec![second],
+            2 => vec![ping.key.byte3],
+            3 => vec![ping.key.software_id()],
+            4 | 5 => vec![third ^ 1 << self.rng.below(8)],
+            6 => vec![self.edge_byte()],
+            7..=9 => self.other_pings(port, ping.key),
+            _ => self.earlier_bytes(port, ping.key),
+        };
+        let others: Vec<u8> = others.into_iter().filter(|&byte| byte != third).collect();
+        self.rng.pick_if_any(&others).unwrap_or(third ^ 1)
+    }
+
+    /// The bytes of the pings that wait with this key on another port, or with
+    /// another one on this.
+    fn other_pings(&self, port: u8, key: Key) -> Vec<u8> {
+        let mut bytes = Vec::new();
+        for (number, held) in self.station.ports() {
+            let pings = held.waiting().filter(|waiting| waiting.key.is_ping());
+            let others = pings.filter(|ping| (number.byte() == port) != (ping.key == key));
+            bytes.extend(others.map(|ping| ping.parameters[2]));
+        }
+        bytes
+    }
+
+    /// The third parameters of the requests made there of late with this key.
+    fn earlier_bytes(&self, port: u8, key: Key) -> Vec<u8> {
+        let recent = self.recent.iter().filter(|(at, _)| *at == port);
+        let same = recent.filter(|(_, request)| request.key == key);
+        same.map(|(_, request)| request.parameters[2]).collect()
+    }
+
+    /// A report that answers some ping of the port, or nearly that. Now and
+    /// then it is an event, or of another port.
+    pub(super) fn answer_ping(&mut self, port: u8) -> Vec<u8> {
+        let waiting = self.port(port).into_iter().flat_map(|port| port.waiting());
+        let pings: Vec<Waiting> = waiting.filter(|ping| ping.key.is_ping()).copied().collect();
+        let Some(ping) = self.rng.pick_if_any(&pings) else {
+            return self.near_reply();
+        };
+        let (mut to, mut key) = (port, ping.key);
+        let parameters = self.ping_answer(port, &ping, 60);
+        match self.rng.below(16) {
+            0 => key.byte3 &= 0xF0,
+            1 => to = self.device_or_receiver(),
+            _ => (),
+        }
+        self.hidpp(to, key, &parameters)
+    }
+
+    /// An error for the request in the highest place of the port.
+    pub(super) fn error_on(&mut self, port: u8) -> Vec<u8> {
+        match self.youngest(port) {
+            Some(waiting) => self.error_report(port, waiting.key),
+            None => self.error(),
+        }
+    }
+
+    /// The request in the highest place of a port.
+    pub(super) fn youngest(&self, port: u8) -> Option<Waiting> {
+        self.port(port)?.waiting().last().copied()
     }
 
     /// A reply of the receiver that tells a device's serial. Now and then it
@@ -203,7 +284,11 @@ impl Generator {
         if self.rng.chance(50) {
             return self.error_report(port, key);
         }
-        let parameters = self.battery();
+        let mut parameters = self.battery();
+        let earlier = self.earlier_bytes(port, key);
+        if let Some(byte) = self.rng.pick_if_any(&earlier) {
+            parameters[2] = byte;
+        }
         self.hidpp(port, key, &parameters)
     }
 
@@ -215,8 +300,10 @@ impl Generator {
     }
 
     fn recent_request(&mut self) -> (u8, Key) {
-        let recent = self.rng.pick_if_any(&self.recent);
-        recent.unwrap_or((self.focus[0], self.ping()))
+        match self.rng.pick_if_any(&self.recent) {
+            Some((port, request)) => (port, request.key),
+            None => (self.focus[0], self.ping()),
+        }
     }
 
     fn missed_request(&mut self) -> (u8, Key) {

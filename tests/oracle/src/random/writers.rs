@@ -75,7 +75,7 @@ impl Generator {
         let software_id = self.rng.pick(&[1, 1, 2, 3, 0x0E, 0x0F]);
         let (byte2, function, mut start) = self.purpose(port);
         let byte3 = match byte2 {
-            0x80..=0x83 => self.rng.pick(&[0x00, 0x02, 0xB5, 0xF1, 0xFF]),
+            0x80..=0x83 => self.rng.pick(&[0x00, 0x02, 0x11, 0xB5, 0xF1, 0xFF]),
             _ => function * 16 + software_id,
         };
         let key = Key { byte2, byte3 };
@@ -103,7 +103,7 @@ impl Generator {
     /// Byte 2, the function and the first parameters of a useful request.
     fn purpose(&mut self, port: u8) -> (u8, u8, Vec<u8>) {
         match self.rng.below(20) {
-            0..=3 => (0, 1, vec![0, 0]),
+            0..=3 => (0, 1, self.ping_parameters().to_vec()),
             4..=8 => (0, 0, self.asked_feature().to_be_bytes().to_vec()),
             9..=12 => match self.index_of(port, BATTERY_LEVEL_STATUS) {
                 0 => (self.feature_byte(), 0, vec![1]),
@@ -111,6 +111,20 @@ impl Generator {
             },
             13..=15 => (self.rng.pick(&[0x80, 0x81, 0x82, 0x83]), 0, vec![]),
             _ => (self.feature_byte(), self.rng.below(16) as u8, vec![1]),
+        }
+    }
+
+    /// The first two are most often 0, the third is one of few values.
+    pub(super) fn ping_parameters(&mut self) -> [u8; 3] {
+        let third = match self.rng.below(4) {
+            0 => self.edge_byte(),
+            _ => self
+                .rng
+                .pick(&[0x00, 0x01, 0x11, 0x5A, 0x5A, 0x5B, 0x5B, 0xFF]),
+        };
+        match self.rng.below(4) {
+            0 => [self.edge_byte(), self.edge_byte(), third],
+            _ => [0, 0, third],
         }
     }
 
@@ -247,6 +261,17 @@ impl Generator {
             _ => (),
         }
         Call::Cancel { port, key }
+    }
+
+    /// Cancels the request in the highest place of the port.
+    pub(super) fn cancel_on(&mut self, port: u8) -> Call {
+        match self.youngest(port) {
+            Some(waiting) => Call::Cancel {
+                port,
+                key: waiting.key,
+            },
+            None => self.cancel(),
+        }
     }
 
     pub(super) fn switch(&mut self) -> Call {
