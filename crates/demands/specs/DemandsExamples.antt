@@ -26,6 +26,7 @@ use Rattle.port.specs.Places.{isEmpty, matches}
 use Rattle.port.specs.Answers as answers
 use Rattle.port.specs.PortContracts.{takenOf}
 use Rattle.hidpp.specs.HidppTaking.{messageOf}
+use Rattle.hidpp.specs.Answering.{Answers}
 use Rattle.serial.specs.Serials.{SerialResult}
 use Rattle.serial.specs.Giving.{Gives}
 use Rattle.blotterfinch.specs.declared.Report.{Report}
@@ -153,15 +154,18 @@ module _ (d : Demands) where
     abbrev pong : ℕ → List ℕ
     pong third = 0x10 ∷ 0x02 ∷ 0x00 ∷ 0x11 ∷ 0x02 ∷ 0x00 ∷ third ∷ []
 
-    ping-answered : Ensured st (take (pong 0x5B)) (takeStep (pong 0x5B) (takeOutcome r)) → isReply (takenOf (r .answer)) ≡ true
-    unfolding readRule familyRule hidppRule reportFrom lengthOf
-    ping-answered e =
-        d .replies st k (pong 0x5B) r e .1 (refl, (refl, (place, record {
+    own-reply : Answers (pong 0x5B) (requestIn (portFor st 2 .places) place)
+    own-reply =
+        record {
           waits = λ z. let y : _≡_ {A = ℕ} 50 0 = sym (ap (λ (x : Request). x .ticks) is) ∙ z in omega arith;
           same2 = ap (λ (x : Request). x .byte2 .0) is;
           same3 = ap (λ (x : Request). x .byte3) is;
           ping = λ zero one. sym (ap (λ (x : Request). x .first .2) is);
-        })))
+        }
+
+    ping-answered : Ensured st (take (pong 0x5B)) (takeStep (pong 0x5B) (takeOutcome r)) → isReply (takenOf (r .answer)) ≡ true
+    unfolding readRule familyRule hidppRule reportFrom lengthOf
+    ping-answered e = d .replies st k (pong 0x5B) r e .1 (refl, (refl, (place, own-reply)))
 
     late-ping : Ensured st (take (pong 0x5A)) (takeStep (pong 0x5A) (takeOutcome r)) → (takenOf (r .answer) ≡ answers.stray (record { port = 2; byte2 = 0x00; byte3 = 0x11; start = 4; size = 3 })) × (r .station ≡ st)
     unfolding readRule familyRule hidppRule reportFrom lengthOf messageOf

@@ -1,7 +1,7 @@
 -- The answers of a run fit their rows, where the calls are within the encoding's bounds; so the rows read back as the answers.
 use Prim.Native.Nat.{ℕ, _+_, _≤_}
 use mathlib.Core.Path.{_≡_, refl, _∙_, ap, subst}
-use mathlib.Core.Bool.{not, _&&_}
+use mathlib.Core.Bool.{not}
 use mathlib.Core.List.{List, [], _∷_, _++_, append-assoc}
 use native.Mathlib.Omega.{arith}
 use lib.Dec.{eqb, ltb}
@@ -9,15 +9,13 @@ use lib.ListN.{length, take, drop, length-map}
 use lib.Seq.{take-at, drop-at}
 use borrow.Author.Tests.{leb-true, le-leb, not-false}
 use Rattle.report.specs.ChoicesLaws.{by-case}
-use Rattle.report.specs.Ports.{inRange, isDevice, isPort}
-use Rattle.report.specs.Sizes.{softwareId, isFeature}
+use Rattle.report.specs.Ports.{isDevice, isPort}
 use Rattle.report.specs.Reading as reading
 use Rattle.report.specs.Reading.{Report, Read, readRule}
 use Rattle.frame.specs.Writing as writing
 use Rattle.port.specs.Answers as answers
 use Rattle.port.specs.Answers.{Result}
 use Rattle.port.specs.Waiting as waiting
-use Rattle.port.specs.Waiting.{waitingAt, isFound}
 use Rattle.port.specs.declared.Port.{Port}
 use Rattle.port.specs.declared.Request.{Request}
 use Rattle.hidpp.specs.declared.Message.{Message}

@@ -89,7 +89,7 @@ module _ (p : Port) (m : Message) (s : SoundPlaces (p .places)) where
       record {
         reply = (λ q. absurd (false≢true q), λ q. absurd (true≢false (sym e ∙ q .0)));
         failure = (λ q. absurd (false≢true q), λ q. absurd (n (q .1)));
-        place = λ i. simp (e, not-so (errorFits m && matches (named2 m) (named3 m) (requestIn (p .places) i)) (λ q. let h = both _ _ q in n (h .0, (i, h .1)))) ;
+        place = λ i. simp (e, not-so (errorFits m && matches (named2 m) (named3 m) (requestIn (p .places) i)) (λ q. let h = both _ _ q in n (h .0, (i, h .1))));
         other = λ w q n. absurd (true≢false (sym e ∙ q));
       }
   stray-at (otherPing e n w) = unanswered-at e n refl refl refl (λ q. (refl, refl))

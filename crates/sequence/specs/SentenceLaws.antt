@@ -1,13 +1,13 @@
 -- Document 01, "What the console part does" and "Refusal numbers": on any station, which port a call is for is what its answer says, and a refused call changes nothing. One walk over the rules gives both.
 use Prim.Native.Nat.{ℕ}
 use mathlib.Core.Path.{_≡_, refl, sym, _∙_, ap}
-use mathlib.Core.Bool.{Bool, true, false, cond, not, _&&_, false≢true}
+use mathlib.Core.Bool.{Bool, true, false, cond, not, false≢true}
 use mathlib.Core.List.{List}
 use lib.ListN.{length}
 use lib.Dec.{ltb, eqb}
 use Rattle.report.specs.ChoicesLaws.{by-case}
-use Rattle.report.specs.Ports.{receiver, inRange, isDevice, isPort}
-use Rattle.report.specs.Sizes.{byte, softwareId, isFeature}
+use Rattle.report.specs.Ports.{receiver, isDevice, isPort}
+use Rattle.report.specs.Sizes.{byte}
 use Rattle.report.specs.Reading as reading
 use Rattle.report.specs.Reading.{Report, Read, reportFrom, readRule}
 use Rattle.frame.specs.Writing as writing
@@ -37,9 +37,6 @@ use Rattle.sequence.specs.ReadingsLaws.{read-fits}
 -- an answer that is for the port, and no refusal
 abbrev Answered : Answer → Type 0
 Answered a = (takeForNone a ≡ false) × (takeRefused a ≡ false)
-
-abbrev AnsweredAt : Result → Type 0
-AnsweredAt r = Answered (r .answer)
 
 -- a drop count changes neither
 drops-kind : (dropped : ℕ) (a : Answer) → Answered a → Answered (withDrops dropped a)

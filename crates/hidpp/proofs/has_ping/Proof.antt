@@ -1,6 +1,5 @@
 -- `hidpp::has_ping` meets its contract.
 use mathlib.Core.Path.{sym, _∙_, ap}
-use lib.Dec.{ltb}
 use Rattle.port.specs.Waiting.{isFound}
 use borrow.Author.Needs.{needs}
 use Rattle.hidpp.proofs.has_ping.Statement.{statement}
