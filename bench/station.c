@@ -25,7 +25,8 @@ struct outcome {
 
 /* Each sequence is made by a function of its own on either side, so that callgrind has a line for each. */
 #define SCRIPTS(X) \
-    X(setup) X(mouse) X(refused) X(event) X(request) X(reply) X(error) X(cancel) X(tick) X(list) X(serial)
+    X(setup) X(mouse) X(refused) X(event) X(request) X(reply) X(error) X(cancel) X(tick) X(list) X(serial) \
+    X(ping) X(late)
 
 #define INDEX(name) sequence_##name,
 enum { SCRIPTS(INDEX) SEQUENCE_COUNT };
@@ -66,6 +67,8 @@ static const struct {
     {sequence_tick, sequence_request, 0, "tick"},
     {sequence_list, sequence_setup, 0, "listing"},
     {sequence_serial, sequence_setup, 0, "serial, asked and told"},
+    {sequence_ping, sequence_setup, 0, "ping and reply"},
+    {sequence_late, sequence_setup, 0, "take: other ping's reply"},
 };
 enum { LINES = sizeof lines / sizeof lines[0] };
 
@@ -150,6 +153,12 @@ static void write_sequences(void)
         add(&sequences[sequence_list], LIST);
         add_request(&sequences[sequence_serial], 0xFF, 0x83, 0xB5, 0x31, 0x00);
         TAKE_REPORT(&sequences[sequence_serial], 0x11, 0xFF, 0x83, 0xB5, 0x31, 0xFB, 0x84, 0x1B, 0x86);
+        add_request(&sequences[sequence_ping], 0x02, 0x00, 0x11, 0x00, 0x00)[CALL_HEAD + 2] = 0x5B;
+        TAKE_REPORT(&sequences[sequence_ping], 0x10, 0x02, 0x00, 0x11, 0x02, 0x00, 0x5B);
+        if (i == 0)
+            add_request(&sequences[sequence_late], 0x02, 0x00, 0x11, 0x00, 0x00)[CALL_HEAD + 2] = 0x5B;
+        else
+            TAKE_REPORT(&sequences[sequence_late], 0x10, 0x02, 0x00, 0x11, 0x02, 0x00, 0x5A);
     }
     /* A request in every place of every port, and then what ends it. */
     for (int sequence = sequence_request; sequence <= sequence_tick; sequence++)

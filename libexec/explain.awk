@@ -141,7 +141,7 @@ function replied(answer, port,    b2, b3, k, p) {
     k = key(port, b2, b3)
     p = parameters(answer)
     split(p, sides, " ")
-    if (is_ping(b2, b3)) return "protocol version " decimal(sides[1]) "." decimal(sides[2]) ", ping data " ping_data(p) " as asked"
+    if (is_ping(b2, b3)) return "protocol version " decimal(sides[1]) "." decimal(sides[2]) ", ping byte " ping_byte(p) " as asked"
     if (b2 == "00" && b3 ~ /^0/) return feature_name(asked[k]) (sides[1] == "00" ? " is not there" : " has index " decimal(sides[1]))
     if (b3 ~ /^0/ && feature_at(port, b2) == "1000") return "battery: " battery(sides[1], sides[2], sides[3])
     if (serial_of(port, b2, b3, asked[k]) && value(answer, "length") == 16 && sides[1] == substr(asked[k], 1, 2)) return told(answer, serial_of(port, b2, b3, asked[k]), sides[2] sides[3] sides[4] sides[5])
@@ -177,7 +177,7 @@ function stray(line, port,    b2, b3, p, due) {
     b3 = toupper(word[5])
     p = is_ping(b2, b3) ? parameters(last) : ""
     due = waiting_with(line, b2, b3)
-    if (due != "") explain(who(port) " replies to a ping with ping data " ping_data(p) "; the one that waits has " ping_data(due) ", and goes on waiting")
+    if (due != "") explain(who(port) " replies to a ping with ping byte " ping_byte(p) "; the one that waits has " ping_byte(due) ", and goes on waiting")
     else if (b2 == "8F" || b2 == "FF") explain("no request waits for this from " who(port) ": error " toupper(word[7]) " to " asking(port, b3, toupper(word[6]), "") ", " error_text(b2, toupper(word[7])))
     else explain("no request waits for this from " who(port) ": a reply to " asking(port, b2, b3, p))
 }
@@ -229,7 +229,7 @@ function asking(port, b2, b3, p,    text) {
     b2 = toupper(b2)
     b3 = toupper(b3)
     if (b2 in register) text = register[b2] " " b3 (serial_of(port, b2, b3, p) ? " (serial of " who(serial_of(port, b2, b3, p)) ")" : "")
-    else if (is_ping(b2, b3)) return "ping (protocol version)" (p == "" ? "" : " with ping data " ping_data(p))
+    else if (is_ping(b2, b3)) return "ping (protocol version)" (p == "" ? "" : " with ping byte " ping_byte(p))
     else if (b2 == "00" && b3 ~ /^0/) return "index of " feature_name(p)
     else text = "function " decimal("0" substr(b3, 1, 1)) " of feature index " decimal(b2) (feature_at(port, b2) == "" ? "" : " (" name_of[feature_at(port, b2)] ")") ", software id " decimal("0" substr(b3, 2, 1))
     return text (p == "" ? "" : " with " p)
@@ -240,7 +240,7 @@ function is_ping(b2, b3) {
 }
 
 # Document 000's name for the third parameter of a ping, which the reply repeats.
-function ping_data(p) {
+function ping_byte(p) {
     return substr(p, 7, 2)
 }
 

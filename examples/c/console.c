@@ -44,7 +44,7 @@ static void show_stream(const uint8_t *bytes, size_t length)
     }
 }
 
-/* GetProtocolVersion to device 2, software id 1, ping data 0x5A. */
+/* GetProtocolVersion to device 2, software id 1, ping byte 0x5A. */
 static void write_ping(uint8_t *buffer, size_t length, size_t offset)
 {
     const uint8_t parameters[] = {0x00, 0x00, 0x5A};
