@@ -171,7 +171,7 @@ function error_text(kind, code) {
 }
 
 # Of a report that nothing waits for, its bytes are all there is. Where a request with its bytes 2 and 3 waits, it is a
-# ping with other data. The line is the port's, of the dump after the report.
+# ping with another byte. The line is the port's, of the dump after the report.
 function stray(line, port,    b2, b3, p, due) {
     b2 = toupper(word[4])
     b3 = toupper(word[5])
@@ -239,7 +239,7 @@ function is_ping(b2, b3) {
     return b2 == "00" && b3 ~ /^1/
 }
 
-# Document 000's name for the third parameter of a ping, which the reply repeats.
+# The third parameter of a ping, which the reply repeats.
 function ping_byte(p) {
     return substr(p, 7, 2)
 }

@@ -15,16 +15,18 @@ use Rattle.station.specs.Stations.{positionOf, freshStation, withPort}
 use Rattle.station.specs.StationTaking.{takeBy, takeRule}
 use Rattle.station.specs.StationCalls.{requestRule, tickedPort, endedOn, tickAll}
 use Rattle.cases.specs.LetteredCases.{nineLent, waitingPort, device2}
-use Rattle.cases.specs.PingCases.{pingedWith, slow, pong, ofVersion, longPinged, longPing, longPong, twoPings, PingCases}
+use Rattle.cases.specs.PingCases.{pingedWith, slow, pingReply, ofVersion, device3, longPing, longReply, twoPings, PingCases}
 
 pub ping-cases : PingCases
-unfolding nineLent waitingPort device2 pingedWith slow pong ofVersion longPinged longPing longPong twoPings lengthOf reportFrom hidppRule familyRule readRule isForbiddenFrame freshPort emptyPlace withVersion withPlaces firstAt sumOver afterTick tickRule endedAt roomFor withFoundFeature afterReply afterError messageOf errorRule replyRule featureRule unaskedRule unansweredRule takeHidpp givenBy waitingRequest requestBy requestAt positionOf freshStation withPort takeBy takeRule requestRule tickedPort endedOn tickAll
+unfolding nineLent waitingPort device2 pingedWith slow pingReply ofVersion device3 longPing longReply twoPings lengthOf reportFrom hidppRule familyRule readRule isForbiddenFrame freshPort emptyPlace withVersion withPlaces firstAt sumOver afterTick tickRule endedAt roomFor withFoundFeature afterReply afterError messageOf errorRule replyRule featureRule unaskedRule unansweredRule takeHidpp givenBy waitingRequest requestBy requestAt positionOf freshStation withPort takeBy takeRule requestRule tickedPort endedOn tickAll
 ping-cases =
     record {
+      first = refl;
       expires = refl;
       second = refl;
       late = refl;
       answered = refl;
+      again = refl;
       elsewhere = refl;
       major1 = refl;
       major1-none = refl;
@@ -32,6 +34,7 @@ ping-cases =
       long-other = refl;
       receiver = refl;
       two = refl;
+      twins = refl;
       feature = refl;
       function1 = refl;
       error = refl;

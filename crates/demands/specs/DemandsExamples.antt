@@ -5,7 +5,7 @@ use mathlib.Core.Bool.{Bool, true, false, cond, _&&_, _||_, true≢false}
 use mathlib.Core.List.{List, [], _∷_, _++_, map}
 use native.Mathlib.Omega.{arith}
 use lib.ListN.{length, getD, replicate}
-use lib.Dec.{eqb}
+use lib.Dec.{eqb, lit<}
 use denote.Ref.{RefT, now}
 use Rattle.report.specs.Ports.{isDevice, isPort}
 use Rattle.report.specs.Sizes.{byte, hidppStart, lengthOf}
@@ -25,7 +25,7 @@ use Rattle.port.specs.Records.{emptyPlace, freshPort, madeFresh, requestIn, wit
 use Rattle.port.specs.Places.{isEmpty, matches}
 use Rattle.port.specs.Answers as answers
 use Rattle.port.specs.PortContracts.{takenOf}
-use Rattle.hidpp.specs.HidppTaking.{messageOf}
+use Rattle.hidpp.specs.HidppTaking.{messageOf, isMajor1}
 use Rattle.hidpp.specs.Answering.{Answers}
 use Rattle.serial.specs.Serials.{SerialResult}
 use Rattle.serial.specs.Giving.{Gives}
@@ -58,7 +58,7 @@ use Rattle.sequence.specs.Independence.{Alone}
 use Rattle.sequence.specs.Stays.{Stays, ownCall, tickCall, receiverCall, SameButDrops, Drops}
 use Rattle.sequence.specs.Histories.{Ensured, Made, callOf, History, stationAfter, made}
 use Rattle.reach.specs.Sound.{Reached}
-use Rattle.reach.specs.CallCases.{AllPlaced, ByCases, SerialCase, keepsNone, firstSerial, sameSerial, otherSerial}
+use Rattle.reach.specs.CallCases.{Waits, AllPlaced, ByCases, StepCase, hidppAtPort, givesPlain, major1, SerialCase, keepsNone, firstSerial, sameSerial, otherSerial}
 use Rattle.reach.specs.CallCasesLaws.{not-so}
 use Rattle.reach.specs.RefusalTable.{led5, RefusalRow, RefusedWith}
 use Rattle.reach.specs.Completion.{isReply, isFailure, isHidppRead, Replies, Fails, readEnds, Swaps, endsIn}
@@ -108,6 +108,9 @@ named n device other away s = go (one device) s refl
     go t tickCall q = true≢false (sym (ap is-one q))
     go t receiverCall q = away (sym (ap number q))
 
+same-taken : {a b : answers.Answer} → taken a ≡ taken b → a ≡ b
+same-taken e = cc e
+
 module _ (d : Demands) where
   -- the station that a call hands back is the rules' next one
   next-station : (st : Station) (c : Call) (o : Outcome) → Ensured st c o → o .station ≡ step st c .station
@@ -149,12 +152,23 @@ module _ (d : Demands) where
   c-moves : (κ : List ℕ) (payload : RefT (List ℕ)) (r : Movement) → mouse-reads.Learnt (κ, tt) (payload, tt) r (payload, tt) → r ≡ cMovement (mouseRule (now payload))
   c-moves = d .without-station .mouse
 
-  -- a ping that waits at device 2 is answered by a report with its third parameter; one with another leaves the station
-  module _ (st : Station) (k : Reached st) (place : ℕ) (is : requestIn (portFor st 2 .places) place ≡ record { byte2 = record { 0 = 0x00 }; byte3 = 0x11; first = record { 0 = 0x00; 1 = 0x00; 2 = 0x5B }; ticks = 50 }) (r : TakeResult) where
-    abbrev pong : ℕ → List ℕ
-    pong third = 0x10 ∷ 0x02 ∷ 0x00 ∷ 0x11 ∷ 0x02 ∷ 0x00 ∷ third ∷ []
+  -- a report for a ping of device 2, by its third parameter, and what its answer carries; and one for a ping of the receiver, which is long
+  abbrev pingReply : ℕ → List ℕ
+  pingReply third = 0x10 ∷ 0x02 ∷ 0x00 ∷ 0x11 ∷ 0x02 ∷ 0x00 ∷ third ∷ []
 
-    own-reply : Answers (pong 0x5B) (requestIn (portFor st 2 .places) place)
+  abbrev aboutReply : answers.About
+  aboutReply = record { port = 2; byte2 = 0x00; byte3 = 0x11; start = 4; size = 3 }
+
+  abbrev receiverReply : List ℕ
+  receiverReply = 0x11 ∷ 0xFF ∷ 0x00 ∷ 0x11 ∷ 0x02 ∷ 0x00 ∷ 0x5A ∷ replicate 13 0
+
+  -- the ping that waits
+  abbrev ping : Request
+  ping = record { byte2 = record { 0 = 0x00 }; byte3 = 0x11; first = record { 0 = 0x00; 1 = 0x00; 2 = 0x5B }; ticks = 50 }
+
+  -- a ping that waits at device 2 is answered by a report with its third parameter; one with another leaves the station
+  module _ (st : Station) (k : Reached st) (place : ℕ) (is : requestIn (portFor st 2 .places) place ≡ ping) (r : TakeResult) where
+    own-reply : Answers (pingReply 0x5B) (requestIn (portFor st 2 .places) place)
     own-reply =
         record {
           waits = λ z. let y : _≡_ {A = ℕ} 50 0 = sym (ap (λ (x : Request). x .ticks) is) ∙ z in omega arith;
@@ -163,14 +177,14 @@ module _ (d : Demands) where
           ping = λ zero one. sym (ap (λ (x : Request). x .first .2) is);
         }
 
-    ping-answered : Ensured st (take (pong 0x5B)) (takeStep (pong 0x5B) (takeOutcome r)) → isReply (takenOf (r .answer)) ≡ true
+    ping-answered : Ensured st (take (pingReply 0x5B)) (takeStep (pingReply 0x5B) (takeOutcome r)) → isReply (takenOf (r .answer)) ≡ true
     unfolding readRule familyRule hidppRule reportFrom lengthOf
-    ping-answered e = d .replies st k (pong 0x5B) r e .1 (refl, (refl, (place, own-reply)))
+    ping-answered e = d .replies st k (pingReply 0x5B) r e .1 (refl, (refl, (place, own-reply)))
 
-    late-ping : Ensured st (take (pong 0x5A)) (takeStep (pong 0x5A) (takeOutcome r)) → (takenOf (r .answer) ≡ answers.stray (record { port = 2; byte2 = 0x00; byte3 = 0x11; start = 4; size = 3 })) × (r .station ≡ st)
+    late-ping : Ensured st (take (pingReply 0x5A)) (takeStep (pingReply 0x5A) (takeOutcome r)) → (takenOf (r .answer) ≡ answers.stray aboutReply) × (r .station ≡ st)
     unfolding readRule familyRule hidppRule reportFrom lengthOf messageOf
     late-ping e =
-        d .other-pings st k (pong 0x5A) r e (record {
+        d .other-pings st k (pingReply 0x5A) r e (record {
           read = refl;
           byte2 = refl;
           function1 = refl;
@@ -178,6 +192,26 @@ module _ (d : Demands) where
           waits = ap (λ (x : Request). matches 0x00 0x11 x) is;
           differs = λ z. let y : _≡_ {A = ℕ} 0x5A 0x5B = z ∙ ap (λ (x : Request). x .first .2) is in omega arith;
         })
+
+  -- so does a long one that comes for the receiver's ping
+  late-receiver : (st : Station) → Reached st → (place : ℕ) → requestIn (portFor st 255 .places) place ≡ ping → (r : TakeResult) → Ensured st (take receiverReply) (takeStep receiverReply (takeOutcome r)) → r .station ≡ st
+  unfolding readRule familyRule hidppRule reportFrom lengthOf
+  late-receiver st k place is r e =
+      d .other-pings st k receiverReply r e (record {
+        read = refl;
+        byte2 = refl;
+        function1 = refl;
+        place = place;
+        waits = ap (λ (x : Request). matches 0x00 0x11 x) is;
+        differs = λ z. let y : _≡_ {A = ℕ} 0x5A 0x5B = z ∙ ap (λ (x : Request). x .first .2) is in omega arith;
+      }) .1
+
+  -- where none waits the rules go on: a plain notice from a device of version 1.0
+  none-waits : (st : Station) → AllPlaced st → isMajor1 (portFor st 2 .version) ≡ true → ¬ Waits (portFor st 2) 0x00 0x11 → (r : TakeResult) → Ensured st (take (pingReply 0x5A)) (takeStep (pingReply 0x5A) (takeOutcome r)) → takenOf (r .answer) ≡ answers.plain aboutReply
+  unfolding readRule familyRule hidppRule reportFrom lengthOf messageOf
+  none-waits st placed version unasked r e =
+      let by-case : StepCase st (take (pingReply 0x5A)) _ = hidppAtPort {r = reportFrom hidppStart (pingReply 0x5A)} refl (λ device number g. let z : _≡_ {A = ℕ} 0 0x83 = g .byte2 in omega arith) (givesPlain (major1 (refl, unasked) (lit< tt) version)) in
+      same-taken (ap (λ (o : Outcome). o .answer) (d .answers st (take (pingReply 0x5A)) _ e ∙ d .of-the-rules .cases st placed (take (pingReply 0x5A)) _ .1 by-case))
 
   module _ (st : Station) (k : Reached st) (bytes : List ℕ) (r : TakeResult) (e : Ensured st (take bytes) (takeStep bytes (takeOutcome r))) where
     -- where one waits its reply completes it, and only there

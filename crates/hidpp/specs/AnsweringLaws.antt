@@ -14,16 +14,16 @@ use Rattle.hidpp.specs.HidppRecords.{isPing}
 use Rattle.hidpp.specs.HidppTaking.{messageOf}
 use Rattle.hidpp.specs.Answering.{Answers, AnswersExactly}
 
--- where both are asked for, the third holds
-asked : (a b c : Bool) → (not (a && b) || c) ≡ true → a ≡ true → b ≡ true → c ≡ true
-asked true true c e p q = e
-asked true false c e p q = absurd (true≢false (sym q))
-asked false b c e p q = absurd (true≢false (sym p))
+-- a test that is asked where two others hold
+holds-where : (a b c : Bool) → (not (a && b) || c) ≡ true → a ≡ true → b ≡ true → c ≡ true
+holds-where true true c e p q = e
+holds-where true false c e p q = absurd (true≢false (sym q))
+holds-where false b c e p q = absurd (true≢false (sym p))
 
-asking : (a b c : Bool) → (a ≡ true → b ≡ true → c ≡ true) → (not (a && b) || c) ≡ true
-asking true true c h = h refl refl
-asking true false c h = refl
-asking false b c h = refl
+where-holds : (a b c : Bool) → (a ≡ true → b ≡ true → c ≡ true) → (not (a && b) || c) ≡ true
+where-holds true true c h = h refl refl
+where-holds true false c h = refl
+where-holds false b c h = refl
 
 module _ (bytes : List ℕ) (r : Request) where
   abbrev same : Bool
@@ -32,25 +32,25 @@ module _ (bytes : List ℕ) (r : Request) where
   abbrev third : Bool
   third = eqb (byte bytes 6) (r .first .2)
 
-  abbrev ping : Bool
-  ping = isPing (byte bytes 2) (byte bytes 3)
+  abbrev pinged : Bool
+  pinged = isPing (byte bytes 2) (byte bytes 3)
 
-  to : (matches (byte bytes 2) (byte bytes 3) r && (not ping || third)) ≡ true → Answers bytes r
-  to e =
-      let m = both (matches (byte bytes 2) (byte bytes 3) r) (not ping || third) e in
+  in-words : (matches (byte bytes 2) (byte bytes 3) r && (not pinged || third)) ≡ true → Answers bytes r
+  in-words e =
+      let m = both (matches (byte bytes 2) (byte bytes 3) r) (not pinged || third) e in
       let w = both (not (isEmpty r)) same (m .0) in
       let s = both (eqb (r .byte2 .0) (byte bytes 2)) (eqb (r .byte3) (byte bytes 3)) (w .1) in
       record {
         waits = eqb-false _ _ (not-true _ (w .0));
         same2 = eqb-true _ _ (s .0);
         same3 = eqb-true _ _ (s .1);
-        ping = λ zero one. eqb-true _ _ (asked _ _ _ (m .1) (eq-eqb _ _ zero) (eq-eqb _ _ one));
+        ping = λ zero one. eqb-true _ _ (holds-where _ _ _ (m .1) (eq-eqb _ _ zero) (eq-eqb _ _ one));
       }
 
-  from : Answers bytes r → (matches (byte bytes 2) (byte bytes 3) r && (not ping || third)) ≡ true
-  from a =
-      simp (ne-eqb _ _ (a .waits), eq-eqb _ _ (a .same2), eq-eqb _ _ (a .same3), asking (eqb (byte bytes 2) 0) (eqb (function (byte bytes 3)) 1) third (λ zero one. eq-eqb _ _ (a .ping (eqb-true _ _ zero) (eqb-true _ _ one))))
+  by-words : Answers bytes r → (matches (byte bytes 2) (byte bytes 3) r && (not pinged || third)) ≡ true
+  by-words a =
+      simp (ne-eqb _ _ (a .waits), eq-eqb _ _ (a .same2), eq-eqb _ _ (a .same3), where-holds (eqb (byte bytes 2) 0) (eqb (function (byte bytes 3)) 1) third (λ zero one. eq-eqb _ _ (a .ping (eqb-true _ _ zero) (eqb-true _ _ one))))
 
 pub answers-exactly : (bytes : List ℕ) (r : Request) → AnswersExactly bytes r
 unfolding messageOf reportFrom
-answers-exactly bytes r = (to bytes r, from bytes r)
+answers-exactly bytes r = (in-words bytes r, by-words bytes r)

@@ -21,7 +21,7 @@ use Rattle.port.specs.Answers.{Answer, Result, About, reply, stray, plain, even
 use Rattle.port.specs.PortContracts.{aboutOf, kindNumber, resultOf}
 use Rattle.hidpp.specs.declared.Message.{Message}
 use Rattle.hidpp.specs.HidppRecords.{isPing, afterError}
-use Rattle.hidpp.specs.Matching.{answers, answeredAt}
+use Rattle.hidpp.specs.Matching.{answers, answeredAt, pingWaits}
 use Rattle.hidpp.specs.HidppTaking.{about, carried, unchanged, isError, named2, named3, code, errorFits, kindOf, errorRule, replyRule, isMajor1, featureRule, unaskedRule, unansweredRule, takeHidpp}
 
 -- an answer by what it carries, and the port after it
@@ -49,21 +49,18 @@ answered-waiting p m e = λ i. firstAt (λ r. same r i) (p .places)
 
 -- so where none is answered, only a ping can wait with them
 module _ (p : Port) (m : Message) (none : isFound (answeredAt p m) ≡ false) where
-  abbrev pingWaits : Bool
-  pingWaits = isPing (m .byte2 .0) (m .byte3) && isFound (waitingAt p (m .byte2 .0) (m .byte3))
-
-  only-pings : isFound (waitingAt p (m .byte2 .0) (m .byte3)) ≡ pingWaits
+  pub only-pings : isFound (waitingAt p (m .byte2 .0) (m .byte3)) ≡ pingWaits p m
   only-pings = by (isPing (m .byte2 .0) (m .byte3)) refl
     where
       by : (b : Bool) → isPing (m .byte2 .0) (m .byte3) ≡ b → isFound (waitingAt p (m .byte2 .0) (m .byte3)) ≡ (b && isFound (waitingAt p (m .byte2 .0) (m .byte3)))
       by true e = refl
       by false e = ap isFound (answered-waiting p m e) ∙ none
 
-  pub ping-stray : pingWaits ≡ true → unchanged (carried stray m) p ≡ unansweredRule p m
+  pub ping-stray : pingWaits p m ≡ true → unchanged (carried stray m) p ≡ unansweredRule p m
   unfolding unansweredRule
   ping-stray e = simp (only-pings ∙ e)
 
-  pub rules-go-on : pingWaits ≡ false → unaskedRule p m ≡ unansweredRule p m
+  pub rules-go-on : pingWaits p m ≡ false → unaskedRule p m ≡ unansweredRule p m
   unfolding unansweredRule
   rules-go-on e = simp (only-pings ∙ e)
 

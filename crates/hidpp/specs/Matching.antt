@@ -5,6 +5,7 @@ use lib.Dec.{eqb}
 use Rattle.port.specs.declared.Port.{Port}
 use Rattle.port.specs.declared.Request.{Request}
 use Rattle.port.specs.Places.{matches, firstAt}
+use Rattle.port.specs.Waiting.{waitingAt, isFound}
 use Rattle.hidpp.specs.declared.Message.{Message}
 use Rattle.hidpp.specs.HidppRecords.{isPing}
 
@@ -16,3 +17,7 @@ answers m r =
 -- the lowest place whose request the report answers; the number of places where it answers none
 abbrev pub answeredAt : Port → Message → ℕ
 answeredAt p m = firstAt (answers m) (p .places)
+
+-- a ping with the report's bytes 2 and 3 waits
+abbrev pub pingWaits : Port → Message → Bool
+pingWaits p m = isPing (m .byte2 .0) (m .byte3) && isFound (waitingAt p (m .byte2 .0) (m .byte3))

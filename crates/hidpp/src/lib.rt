@@ -1,14 +1,12 @@
 // Taking a HID++ report at the port that it names.
 ghost use mathlib.Core.Path.{_≡_};
-ghost use mathlib.Core.Bool.{_&&_};
 ghost use Rattle.report.specs.ReportContracts.{hidppOf};
 ghost use Rattle.port.specs.Records.{slotOf};
 ghost use Rattle.port.specs.Places.{firstAt};
-ghost use Rattle.port.specs.Waiting.{waitingAt, isFound};
 ghost use Rattle.port.specs.Answers.{stray, plain};
 ghost use Rattle.port.specs.PortContracts.{aboutOf, kindNumber, resultOf};
 ghost use Rattle.hidpp.specs.HidppRecords.{holds, isPing, isGetFeature, indexFrom, withFoundFeature, withBatteryFrom, isBatteryReply, afterReply, isVersion1, afterError, isEvent0, afterBatteryEvent, afterWirelessEvent, afterEvent};
-ghost use Rattle.hidpp.specs.Matching.{answers};
+ghost use Rattle.hidpp.specs.Matching.{answers, pingWaits};
 ghost use Rattle.hidpp.specs.HidppTaking.{parameter, messageOf, about, carried, unchanged, isError, errorFits, kindOf, errorRule, replyRule, isMajor1, featureRule, unaskedRule, takeHidpp};
 use port::Battery;
 use port::FirstParameters;
@@ -377,7 +375,7 @@ fn take_unasked(port: Port, m: Message) -> PortTaken
     take_feature(port, m)
 }
 
-// Whether a reply answers this request: a ping only with its third parameter.
+// Whether the report is a reply to this request: to a ping only where both have the same third parameter.
 fn is_answer(m: Message, request: Request) -> bool
     ensures { λ r. ⌜ r ≡ answers m request ⌝ }
 {
@@ -390,7 +388,7 @@ fn is_answer(m: Message, request: Request) -> bool
     m.first.2 == request.first.2
 }
 
-// The lowest place whose request a reply answers, or port::PLACES.
+// The lowest place whose request the report is a reply to, or port::PLACES.
 fn first_answered(places: [Request; port::PLACES], m: Message) -> usize
     ensures { λ r. ⌜ r ≡ firstAt (answers m) places ⌝ }
 {
@@ -405,9 +403,9 @@ fn first_answered(places: [Request; port::PLACES], m: Message) -> usize
     port::PLACES
 }
 
-// Whether a ping with the bytes 2 and 3 of this message waits.
+// Whether a ping with the report's bytes 2 and 3 waits.
 fn has_ping(port: Port, m: Message) -> bool
-    ensures { λ r. ⌜ r ≡ isPing (m .byte2 .0) (m .byte3) && isFound (waitingAt port (m .byte2 .0) (m .byte3)) ⌝ }
+    ensures { λ r. ⌜ r ≡ pingWaits port m ⌝ }
 {
     if is_ping(m.byte2, m.byte3) {
         let places = port.places;

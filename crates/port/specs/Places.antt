@@ -1,4 +1,4 @@
--- Document 01, "Ports and their records" and "Taking a HID++ report": which place answers.
+-- Document 01, "Ports and their records" and "Taking a HID++ report": where requests wait.
 use Prim.Native.Nat.{ℕ, suc, _+_}
 use mathlib.Core.List.{List, [], _∷_}
 use mathlib.Core.Bool.{Bool, cond, not, _&&_}

@@ -20,7 +20,7 @@ use Rattle.port.specs.Waiting.{waitingAt, endedAt}
 use Rattle.port.specs.Answers.{Answer, refused, reply, stray, plain, event, failed, notice, unpaired, paired, emptyList, link, other, Result}
 use Rattle.hidpp.specs.declared.Message.{Message}
 use Rattle.hidpp.specs.Matching.{answers, answeredAt}
-use Rattle.hidpp.specs.HidppRecords.{afterReply, afterError, afterEvent}
+use Rattle.hidpp.specs.HidppRecords.{isPing, afterReply, afterError, afterEvent}
 use Rattle.hidpp.specs.HidppTaking.{messageOf, about, carried, isError, named2, named3, code, errorFits, kindOf, isMajor1, takeHidpp}
 use Rattle.serial.specs.Serials.{SerialResult}
 use Rattle.serial.specs.Giving.{Gives}
@@ -70,8 +70,8 @@ module _ (p : Port) (m : Message) where
   pub data IsStray : Type 0 where
     -- 1. byte 2 is 0x8F or 0xFF, and none that it fits waits
     unnamed : isError byte2 ≡ true → ¬ Names → IsStray
-    -- 2. one waits with these bytes 2 and 3, a ping, and the third parameter differs
-    otherPing : isError byte2 ≡ false → ¬ Answered → Waits p byte2 byte3 → IsStray
+    -- 2. a ping waits with these bytes 2 and 3, and none whose third parameter is the same
+    otherPing : isPing byte2 byte3 ≡ true → ¬ Answered → Waits p byte2 byte3 → IsStray
     -- 3. byte 2 is 0x80 to 0x83
     register : Unasked → 0x80 ≤ byte2 → byte2 ≤ 0x83 → IsStray
     -- never read (`register` of Complete)

@@ -28,6 +28,7 @@ use Rattle.hidpp.specs.declared.Message.{Message}
 use Rattle.hidpp.specs.HidppRecords.{isPing}
 use Rattle.hidpp.specs.Matching.{answers, answeredAt}
 use Rattle.hidpp.specs.HidppTaking.{messageOf, carried, isError, errorFits, named2, named3, errorRule, replyRule, featureRule, unaskedRule, unansweredRule, takeHidpp}
+use Rattle.hidpp.specs.HidppTakingLaws.{only-pings}
 use Rattle.serial.specs.Serials.{Given, noSerial, serialOf, givenBy, isAnother, SerialResult, serialRule}
 use Rattle.serial.specs.Giving.{Gives}
 use Rattle.serial.specs.GivingLaws.{no-serial, given-exactly}
@@ -78,6 +79,10 @@ module _ (p : Port) (placed : Placed p) (test : Request → Bool) (fails : test 
 
   none-at : ¬ Passes → isFound lowest ≡ false
   none-at n = not-so _ (λ e. n (passes-at e))
+
+-- what is for a ping is no error
+pub ping-no-error : (byte2 byte3 : ℕ) → isPing byte2 byte3 ≡ true → isError byte2 ≡ false
+ping-no-error byte2 byte3 e = ap isError (eqb-true byte2 0 (both (eqb byte2 0) _ e .0))
 
 -- no report answers an empty place
 pub none-answers : (m : Message) → answers m emptyPlace ≡ false
@@ -134,10 +139,14 @@ module _ (p : Port) (placed : Placed p) (m : Message) where
       (λ q. by-case Case _ (λ z. feature-case u (ltb-true _ _ z))
       (λ z. givesStray (reserved u (above 0x80 b2 0x83 e (above 0x40 b2 0x7F q (ltb-false _ _ z)))))))
 
+  unanswered : ¬ Answered p m → isFound (answeredAt p m) ≡ false
+  unanswered n = none-at p placed (answers m) (none-answers m) n
+
   unanswered-case : isError b2 ≡ false → ¬ Answered p m → Case (unansweredRule p m)
   unfolding unansweredRule
   unanswered-case e n =
-      by-case Case _ (λ q. givesStray (otherPing e n (waits-at p placed _ _ q)))
+      by-case Case _
+      (λ q. givesStray (otherPing (both (isPing b2 (m .byte3)) _ (sym (only-pings p m (unanswered n)) ∙ q) .0) n (waits-at p placed _ _ q)))
       (λ q. unasked-case (e, none-waits p placed _ _ q))
 
   pub hidpp-case : HidppCase p m (takeHidpp p m)
@@ -148,9 +157,6 @@ module _ (p : Port) (placed : Placed p) (m : Message) where
       (λ q. givesStray (unnamed e (λ n. true≢false (simp (n .0, found p placed _ _ (n .1)) at q)))))
       (λ e. by-case Case _ (λ q. givesReply (e, passes-at p placed (answers m) (none-answers m) q))
       (λ q. unanswered-case e (none-passes p placed (answers m) (none-answers m) q)))
-
-  unanswered : ¬ Answered p m → isFound (answeredAt p m) ≡ false
-  unanswered n = none-at p placed (answers m) (none-answers m) n
 
   by-unasked : Unasked p m → takeHidpp p m ≡ unaskedRule p m
   unfolding takeHidpp unansweredRule
@@ -166,7 +172,8 @@ module _ (p : Port) (placed : Placed p) (m : Message) where
   hidpp-only (givesFailed h) = simp (h .0, h .1 .0, found p placed (named2 m) (named3 m) (h .1 .1))
   hidpp-only (givesReply h) = simp (h .0, found-at p placed (answers m) (none-answers m) (h .1))
   hidpp-only (givesStray (unnamed e n)) = simp (e, not-so (errorFits m && isFound (waitingAt p (named2 m) (named3 m))) (λ q. let h = both _ _ q in n (h .0, waits-at p placed _ _ (h .1))))
-  hidpp-only (givesStray (otherPing e n w)) = simp (e, unanswered n, found p placed b2 (m .byte3) w)
+  hidpp-only (givesStray (otherPing e n w)) =
+      simp (ping-no-error b2 (m .byte3) e, unanswered n, found p placed b2 (m .byte3) w)
   hidpp-only (givesStray (register u h l)) = by-unasked u ∙ simp le-leb
   hidpp-only (givesStray (reserved u h)) =
       by-unasked u ∙ simp (lt-leb b2 0x83 h, lt-leb b2 0x7F (omega arith), le-leb 0x80 b2 (omega arith), le-leb 0x40 b2 (omega arith), le-ltb b2 0x40 (omega arith))

@@ -41,7 +41,7 @@ use Rattle.sequence.specs.IndependenceLaws.{stored, elsewhere}
 use Rattle.reach.specs.Sound.{SoundPlaces, Reached}
 use Rattle.reach.specs.SoundLaws.{reply-records, error-records, event-records}
 use Rattle.reach.specs.CallCases.{Waits, Answered, Unasked, failedPlace, repliedPlace, gives, IsStray, unnamed, otherPing, register, reserved, late, IsPlain, notification, major1, IsEvent, software0, HidppCase, givesFailed, givesReply, givesStray, givesPlain, givesEvent, radioUnpaired, radioUndeclared, linkUnpaired, DjCase, djRefused, radioTaken, unpairs, pairedSame, pairedNew, linkSet, otherNotice}
-use Rattle.reach.specs.CallCasesLaws.{not-so, answers-matches, answered-waits, serial-answered, hidpp-case, serial-case, dj-case}
+use Rattle.reach.specs.CallCasesLaws.{not-so, ping-no-error, answers-matches, answered-waits, serial-answered, hidpp-case, serial-case, dj-case}
 use Rattle.reach.specs.EndsLaws.{Emptied, hit, miss, answered-place, emptied-at, fresh-empty}
 use Rattle.reach.specs.Completion.{isReply, isFailure, isHidppRead, isFitting, OtherPing, makesFresh, answersRequest, swaps, readEnds, Swaps, Told, Completion}
 
@@ -71,12 +71,12 @@ module _ (p : Port) (m : Message) (s : SoundPlaces (p .places)) where
 
   -- no error, and no request that it answers: nothing ends
   unanswered-at : {r : Result} → isError b2 ≡ false → ¬ Answered p m → isReply (r .answer) ≡ false → isFailure (r .answer) ≡ false → r .port .places ≡ p .places → (Waits p b2 (m .byte3) → (r .answer ≡ carried stray m) × (r .port ≡ p)) → HidppAt p m r
-  unanswered-at {r} no-error none a b e other =
+  unanswered-at {r} no-error none a b e waited =
       record {
         reply = (λ q. absurd (false≢true (sym a ∙ q)), λ q. absurd (none (q .1)));
         failure = (λ q. absurd (false≢true (sym b ∙ q)), λ q. absurd (true≢false (sym (q .0) ∙ no-error)));
         place = λ i. simp (no-error, not-so (answers m (requestIn (p .places) i)) (λ q. none (i, q))) (ap (λ (l : List Request). requestIn l i) e);
-        other = λ w q n. other w;
+        other = λ w q n. waited w;
       }
 
   -- and none with its bytes 2 and 3
@@ -92,7 +92,7 @@ module _ (p : Port) (m : Message) (s : SoundPlaces (p .places)) where
         place = λ i. simp (e, not-so (errorFits m && matches (named2 m) (named3 m) (requestIn (p .places) i)) (λ q. let h = both _ _ q in n (h .0, (i, h .1))));
         other = λ w q n. absurd (true≢false (sym e ∙ q));
       }
-  stray-at (otherPing e n w) = unanswered-at e n refl refl refl (λ q. (refl, refl))
+  stray-at (otherPing e n w) = unanswered-at (ping-no-error b2 (m .byte3) e) n refl refl refl (λ q. (refl, refl))
   stray-at (register u h l) = unasked-at u refl refl refl
   stray-at (reserved u h) = unasked-at u refl refl refl
   stray-at (late u l v w) = unasked-at u refl refl refl

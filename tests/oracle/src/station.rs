@@ -129,7 +129,7 @@ pub const KNOWN_FEATURES: [u16; 5] = [
 ];
 
 /// Bytes 2 and 3 of a HID++ report: what a reply has in common with its
-/// request.
+/// request. The reply to a ping has the third parameter in common too.
 #[derive(Clone, Copy, Debug, PartialEq, Eq)]
 pub struct Key {
     pub byte2: u8,
