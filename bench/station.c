@@ -68,7 +68,7 @@ static const struct {
     {sequence_list, sequence_setup, 0, "listing"},
     {sequence_serial, sequence_setup, 0, "serial, asked and told"},
     {sequence_ping, sequence_setup, 0, "ping and reply"},
-    {sequence_late, sequence_setup, 0, "take: other ping's reply"},
+    {sequence_late, sequence_setup, 0, "take: late ping reply"},
 };
 enum { LINES = sizeof lines / sizeof lines[0] };
 
