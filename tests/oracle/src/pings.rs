@@ -3,7 +3,7 @@
 
 use std::io::{self, BufRead, Write};
 
-use crate::script::{for_each_line, make, Answer, Call, Failure, Line};
+use crate::script::{for_each_call, Answer, Call, Failure};
 use crate::station::{ErrorKind, Key, Outcome, PortNumber, Refusal, Station, Taken, Waiting};
 
 type Test = fn(&Seen) -> bool;
@@ -287,15 +287,9 @@ impl Tally {
     /// Makes the calls of a script on one station that starts fresh.
     pub fn read(input: impl BufRead) -> Result<Tally, Failure> {
         let mut tally = Tally::default();
-        let mut station = Station::default();
-        for_each_line(input, |line| {
-            if let Line::Call(call) = line {
-                let before = station.clone();
-                let answer = make(&mut station, &call);
-                tally.add(&before, &call, &answer);
-                tally.follow(&call, &answer, &station);
-            }
-            Ok(())
+        for_each_call(input, |[before, after], call, answer| {
+            tally.add(before, call, answer);
+            tally.follow(call, answer, after);
         })?;
         Ok(tally)
     }

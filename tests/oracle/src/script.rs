@@ -656,8 +656,25 @@ pub fn replay(input: impl BufRead, mut output: impl Write) -> Result<(), Failure
     output.flush().map_err(Failure::Output)
 }
 
+/// Makes the calls of a script on one station that starts fresh, and hands on
+/// each with its answer and the station before and after it.
+pub fn for_each_call(
+    input: impl BufRead,
+    mut each: impl FnMut([&Station; 2], &Call, &Answer),
+) -> Result<(), Failure> {
+    let mut station = Station::default();
+    for_each_line(input, |line| {
+        if let Line::Call(call) = line {
+            let before = station.clone();
+            let answer = make(&mut station, &call);
+            each([&before, &station], &call, &answer);
+        }
+        Ok(())
+    })
+}
+
 /// Hands on each line of a script; the last may lack its newline.
-pub fn for_each_line(
+fn for_each_line(
     mut input: impl BufRead,
     mut each: impl FnMut(Line) -> io::Result<()>,
 ) -> Result<(), Failure> {

@@ -3,7 +3,7 @@
 
 use std::io::{self, BufRead, Write};
 
-use crate::script::{for_each_line, make, Answer, Call, Failure, Line};
+use crate::script::{for_each_call, Answer, Call, Failure};
 use crate::station::{asked_serial, Key, Notice, Outcome, PortNumber, Station, Taken};
 
 /// What a told serial did, counted for each device.
@@ -40,16 +40,10 @@ impl Tally {
     /// Makes the calls of a script on one station that starts fresh.
     pub fn read(input: impl BufRead) -> Result<Tally, Failure> {
         let mut tally = Tally::default();
-        let mut station = Station::default();
-        for_each_line(input, |line| {
-            if let Line::Call(call) = line {
-                let before = station.clone();
-                let answer = make(&mut station, &call);
-                if let (Call::Take(report), Answer::Taken(taken)) = (call, answer) {
-                    tally.add(&before, &report, &taken, &station);
-                }
+        for_each_call(input, |[before, after], call, answer| {
+            if let (Call::Take(report), Answer::Taken(taken)) = (call, answer) {
+                tally.add(before, report, taken, after);
             }
-            Ok(())
         })?;
         Ok(tally)
     }
