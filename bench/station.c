@@ -33,7 +33,7 @@ enum { SCRIPTS(INDEX) SEQUENCE_COUNT };
 
 static struct sequence sequences[SEQUENCE_COUNT];
 
-/* The store of the six devices that every sequence sets up, with their serials, which `restore` reads. */
+/* The store that `restore` reads. */
 static uint8_t text[MAX_TEXT];
 static size_t text_length;
 
@@ -169,10 +169,12 @@ static void keep_store(const struct sequence *sequence)
     memcpy(text, buffer, text_length);
 }
 
+/* Keeps the store of the six devices that every sequence sets up, with their serials. */
 static void write_text(void)
 {
     static struct sequence sequence;
 
+    sequence.calls = 0;
     set_up(&sequence);
     add_serials(&sequence);
     add(&sequence, STORE);
@@ -362,11 +364,21 @@ static void add_random_call(struct sequence *sequence)
     }
 }
 
+/* Often at the edition or behind the text. */
+static size_t place_in_text(void)
+{
+    switch (rand() % 8) {
+    case 0: return text_length;
+    case 1: return text_length < 5 ? text_length : 5;
+    default: return (size_t)rand() % (text_length + 1);
+    }
+}
+
 /* Changes a text in one place: it is torn, or a byte is put in, left out or another. Half of them stay. */
 static void spoil_text(void)
 {
     static const uint8_t often[] = "\t\n\r 0123456789ABCDEFabcf.-pds";
-    size_t at = (size_t)rand() % (text_length + 1);
+    size_t at = place_in_text();
     uint8_t byte = rand() % 16 == 0 ? (uint8_t)rand() : often[(size_t)rand() % (sizeof often - 1)];
 
     switch (rand() % 8) {
@@ -392,7 +404,7 @@ static void spoil_text(void)
     }
 }
 
-/* What one random sequence stored is the text that the next one reads, often spoilt. */
+/* What one random sequence stored is the text that the next one reads, or the store of six devices is, often spoilt. */
 static void compare(void)
 {
     enum { RANDOM_SCRIPTS = 20000 };
@@ -409,7 +421,9 @@ static void compare(void)
                                            library.buffer, BUFFER);
         plain.sum = plain_measure(sequence.bytes, sequence.calls * CALL_SIZE, text, text_length, plain.buffer, BUFFER);
         expect_same(&library, &plain, "random sequence");
-        if (i % 2 == 1)
+        if (rand() % 8 == 0)
+            write_text();
+        else if (i % 2 == 1)
             keep_store(&sequence);
         spoil_text();
     }
