@@ -1,1 +1,3 @@
 pub mod DeviceLaws
+pub mod Lines
+pub mod ReadingLaws
