@@ -1,3 +1,4 @@
 pub mod DeviceLaws
 pub mod Lines
 pub mod ReadingLaws
+pub mod LinesLaws
