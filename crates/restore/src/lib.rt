@@ -58,6 +58,7 @@ struct Row {
 
 // The byte after the index at a position.
 fn stop_after(position: usize) -> u8
+    requires { ⌜ position < featureCount ⌝ }
     ensures { λ r. ⌜ r ≡ stopAfter position ⌝ }
 {
     if position + 1 < port::FEATURES {
