@@ -22,7 +22,7 @@ use Rattle.port.specs.declared.Version.{Version}
 use Rattle.port.specs.declared.Version.the-variants as versions
 use Rattle.port.specs.declared.Serial.{Serial}
 use Rattle.port.specs.declared.Serial.the-variants as serials
-use Rattle.port.specs.Records.{featureCount, emptyPlace, freshPort, madeFresh, withPairing, withVersion, withFeatures, withSerial, withPlaces, slotOf}
+use Rattle.port.specs.Records.{featureCount, emptyPlace, freshPort, madeFresh, withPairing, withVersion, withFeatures, withSerial, withPlaces, slotOf, featureSet, deviceInformation, deviceName, batteryStatus, wirelessStatus, knownFeatures}
 use Rattle.port.specs.Places.{firstAt, sumOver}
 use Rattle.port.specs.Waiting as waiting
 use Rattle.port.specs.Waiting.{roomFor, endedAt}
@@ -32,7 +32,7 @@ use Rattle.dj.specs.DjTaking.{pairedRule, takeDj}
 use Rattle.request.specs.Requesting.{waitingRequest, requestBy, requestAt, withWaiting}
 use Rattle.serial.specs.Serials.{Given, noSerial, serialOf, isSerialReport, longRegister, serialRegister, parameterFor, givenBy, serialRule}
 use Rattle.serial.specs.GivingLaws.{given-exactly}
-use Rattle.store.specs.Stores.{padPort}
+use Rattle.store.specs.Stores.{padPort, IndexesFit}
 use Rattle.station.specs.declared.Station.{Station}
 use Rattle.station.specs.Stations.{portCount, receiverPosition, positionOf, noPort, portFor, withPort}
 use Rattle.station.specs.StationsLaws.{device-number, device-position, position-within}
@@ -58,6 +58,37 @@ four-bytes n = omega arith
 -- no index found
 abbrev pub noIndexes : List FeatureIndex
 noIndexes = replicate featureCount (record { 0 = 0 })
+
+-- a device that no request waits for, asked and answered at its port
+module _ (n wpid : ℕ) (serial : Serial) (reports : ℕ) where
+  ping-waits : (features : List FeatureIndex) → requestAt (padPort wpid serial reports versions.Unknown features) n 0 0x11 1 (0 ∷ 0 ∷ 0 ∷ []) 0 shortBuffer .port ≡ withWaiting (padPort wpid serial reports versions.Unknown features) 0 (waitingRequest 0 0x11 1 (0 ∷ 0 ∷ 0 ∷ []))
+  unfolding requestAt isForbiddenFrame requestBy roomFor firstAt sumOver emptyPlace padPort
+  ping-waits features = refl
+
+  ping-answered : (features : List FeatureIndex) (major minor : ℕ) → takeHidpp (withWaiting (padPort wpid serial reports versions.Unknown features) 0 (waitingRequest 0 0x11 1 (0 ∷ 0 ∷ 0 ∷ []))) (messageOf (reportFrom hidppStart (hidppShort ∷ n ∷ 0 ∷ 0x11 ∷ major ∷ minor ∷ 0 ∷ [])) (hidppShort ∷ n ∷ 0 ∷ 0x11 ∷ major ∷ minor ∷ 0 ∷ [])) .port ≡ padPort wpid serial reports (versions.Known major minor) features
+  unfolding takeHidpp replyRule afterReply endedAt messageOf reportFrom firstAt emptyPlace padPort waitingRequest withPlaces withVersion
+  ping-answered features major minor = refl
+
+  -- GetFeature
+  module _ (version : Version) (features : List FeatureIndex) (feature : ℕ) where
+    abbrev asking : Request
+    asking = waitingRequest 0 0x01 1 (feature / 256 ∷ feature % 256 ∷ 0 ∷ [])
+
+    feature-waits : eqb (feature / 256) 0 && eqb (feature % 256) 0 ≡ false → requestAt (padPort wpid serial reports version features) n 0 0x01 1 (feature / 256 ∷ feature % 256 ∷ 0 ∷ []) 0 shortBuffer .port ≡ withWaiting (padPort wpid serial reports version features) 0 asking
+    unfolding requestAt isForbiddenFrame requestBy roomFor firstAt sumOver emptyPlace padPort
+    feature-waits some = simp some
+
+    feature-answered : (index : ℕ) → index ≤ 63 → ltb (slotOf feature) featureCount ≡ true → takeHidpp (withWaiting (padPort wpid serial reports version features) 0 asking) (messageOf (reportFrom hidppStart (hidppShort ∷ n ∷ 0 ∷ 0x01 ∷ index ∷ 0 ∷ 0 ∷ [])) (hidppShort ∷ n ∷ 0 ∷ 0x01 ∷ index ∷ 0 ∷ 0 ∷ [])) .port ≡ padPort wpid serial reports version (set features (slotOf feature) (record { 0 = index }))
+    unfolding takeHidpp replyRule afterReply withFoundFeature indexFrom endedAt messageOf reportFrom firstAt emptyPlace padPort waitingRequest withPlaces withFeatures
+    feature-answered index small known =
+        ap found-in (two-bytes feature)
+        ∙ (λ i. cond (known i) (padPort wpid serial reports version (set features (slotOf feature) (record { 0 = cond (le-leb index 63 small i) index 0 }))) (padPort wpid serial reports version features))
+      where
+        found-in : ℕ → Port
+        found-in asked =
+            cond (ltb (slotOf asked) featureCount)
+            (padPort wpid serial reports version (set features (slotOf asked) (record { 0 = cond (leb index 63) index 0 })))
+            (padPort wpid serial reports version features)
 
 -- a device of a station whose receiver is fresh
 module _ (base : Station) (n : ℕ) (named : isDevice n ≡ true) (seven : length (base .ports) ≡ portCount) (idle : portFor base receiver ≡ freshPort) where
@@ -99,3 +130,73 @@ module _ (base : Station) (n : ℕ) (named : isDevice n ≡ true) (seven : lengt
       ∙ ap (λ (p : Port). withPort (with-device freshPort) (positionOf n) (takeDj p (reportFrom djStart (pairing n wpid reports)) (pairing n wpid reports) .port)) (at-device freshPort)
       ∙ again freshPort (padPort (joined2 (wpid % 256) (wpid / 256)) serials.Unknown (joined4 (reports % 256) (reports / 256 % 256) (reports / 256 / 256 % 256) (reports / 256 / 256 / 256)) versions.Unknown noIndexes)
       ∙ (λ i. with-device (padPort (two-bytes wpid i) serials.Unknown (four-bytes reports i) versions.Unknown noIndexes))
+
+  -- a request at its port, where none waits
+  asked : (p q : Port) (byte2 byte3 p0 p1 p2 : ℕ) → requestAt p n byte2 byte3 1 (p0 ∷ p1 ∷ p2 ∷ []) 0 shortBuffer .port ≡ q → run (with-device p) (asks n byte2 byte3 p0 p1 p2 ∷ []) ≡ with-device q
+  unfolding run step requestRule
+  asked p q byte2 byte3 p0 p1 p2 e =
+      let st : Station = with-device p in
+      ap (λ (b : Bool). cond (not b) (record { answer = writing.refused noSuchPort; station = st; lent = shortBuffer }) (requestedAt st (positionOf n) (requestAt (portFor st n) n byte2 byte3 1 (p0 ∷ p1 ∷ p2 ∷ []) 0 shortBuffer)) .station) (device-port n named)
+      ∙ ap (λ (x : Port). withPort st (positionOf n) (requestAt x n byte2 byte3 1 (p0 ∷ p1 ∷ p2 ∷ []) 0 shortBuffer .port)) (at-device p)
+      ∙ ap (withPort st (positionOf n)) e
+      ∙ again p q
+
+  -- a short reply at its port
+  module _ (byte3 p0 p1 p2 : ℕ) where
+    abbrev bytes : List ℕ
+    bytes = hidppShort ∷ n ∷ 0 ∷ byte3 ∷ p0 ∷ p1 ∷ p2 ∷ []
+
+    abbrev report : Report
+    report = reportFrom hidppStart bytes
+
+    read-reply : readRule bytes ≡ reading.hidpp report
+    unfolding readRule familyRule hidppRule reportFrom lengthOf
+    read-reply = ap (λ (b : Bool). cond (not b) (reading.refused noSuchPort) (reading.hidpp report)) (device-port n named)
+
+    gives-none : (p : Port) → givenBy p report bytes ≡ noSerial
+    unfolding givenBy reportFrom
+    gives-none p =
+        let h = device-number n named in
+        let other : eqb n receiver ≡ false = ne-eqb n receiver (λ e. omega (arith, h .1, e)) in
+        simp other
+
+    replied : (p q : Port) → takeHidpp p (messageOf report bytes) .port ≡ q → run (with-device p) (replies n 0 byte3 p0 p1 p2 ∷ []) ≡ with-device q
+    unfolding run step takeRule takeBy reportFrom
+    replied p q e =
+        let st : Station = with-device p in
+        ap (λ (r : reading.Read). takeBy r bytes st .station) read-reply
+        ∙ ap (λ (g : Given). alsoAt st g (storedAt st (positionOf n) (takeHidpp (portFor st n) (messageOf report bytes))) .station) (gives-none (portFor st n))
+        ∙ ap (λ (x : Port). withPort st (positionOf n) (takeHidpp x (messageOf report bytes) .port)) (at-device p)
+        ∙ ap (withPort st (positionOf n)) e
+        ∙ again p q
+
+  module _ (wpid : ℕ) (serial : Serial) (reports : ℕ) where
+    -- its version is told
+    pub version-told : (version : Version) (features : List FeatureIndex) → run (with-device (padPort wpid serial reports versions.Unknown features)) (versionCalls n version) ≡ with-device (padPort wpid serial reports version features)
+    unfolding run
+    version-told versions.Unknown features = refl
+    version-told (versions.Known major minor) features =
+        let p : Port = padPort wpid serial reports versions.Unknown features in
+        let q : Port = withWaiting p 0 (waitingRequest 0 0x11 1 (0 ∷ 0 ∷ 0 ∷ [])) in
+        ap (λ (st : Station). run st (replies n 0 0x11 major minor 0 ∷ [])) (asked p q 0 0x11 0 0 0 (ping-waits n wpid serial reports features))
+        ∙ replied 0x11 major minor 0 q (padPort wpid serial reports (versions.Known major minor) features) (ping-answered n wpid serial reports features major minor)
+
+    -- an index is told
+    pub index-told : (version : Version) (features : List FeatureIndex) (feature index : ℕ) → index ≤ 63 → eqb (feature / 256) 0 && eqb (feature % 256) 0 ≡ false → ltb (slotOf feature) featureCount ≡ true → run (with-device (padPort wpid serial reports version features)) (indexCalls n feature index) ≡ with-device (padPort wpid serial reports version (set features (slotOf feature) (record { 0 = index })))
+    unfolding run
+    index-told version features feature index small some known =
+        let p : Port = padPort wpid serial reports version features in
+        let q : Port = withWaiting p 0 (waitingRequest 0 0x01 1 (feature / 256 ∷ feature % 256 ∷ 0 ∷ [])) in
+        ap (λ (st : Station). run st (replies n 0 0x01 index 0 0 ∷ [])) (asked p q 0 0x01 (feature / 256) (feature % 256) 0 (feature-waits n wpid serial reports version features feature some))
+        ∙ replied 0x01 index 0 0 q (padPort wpid serial reports version (set features (slotOf feature) (record { 0 = index }))) (feature-answered n wpid serial reports version features feature index small known)
+
+    -- all five are
+    pub indexes-told : (version : Version) (a b c d e : FeatureIndex) → IndexesFit (a ∷ b ∷ c ∷ d ∷ e ∷ []) → run (with-device (padPort wpid serial reports version noIndexes)) (indexesCalls n knownFeatures (a ∷ b ∷ c ∷ d ∷ e ∷ [])) ≡ with-device (padPort wpid serial reports version (a ∷ b ∷ c ∷ d ∷ e ∷ []))
+    unfolding run indexesCalls IndexesFit
+    indexes-told version a b c d e h =
+        let none : FeatureIndex = record { 0 = 0 } in
+        ap (λ (st : Station). run st (indexesCalls n (deviceInformation ∷ deviceName ∷ batteryStatus ∷ wirelessStatus ∷ []) (b ∷ c ∷ d ∷ e ∷ []))) (index-told version noIndexes featureSet (a .0) (h .0) refl refl)
+        ∙ ap (λ (st : Station). run st (indexesCalls n (deviceName ∷ batteryStatus ∷ wirelessStatus ∷ []) (c ∷ d ∷ e ∷ []))) (index-told version (a ∷ none ∷ none ∷ none ∷ none ∷ []) deviceInformation (b .0) (h .1 .0) refl refl)
+        ∙ ap (λ (st : Station). run st (indexesCalls n (batteryStatus ∷ wirelessStatus ∷ []) (d ∷ e ∷ []))) (index-told version (a ∷ b ∷ none ∷ none ∷ none ∷ []) deviceName (c .0) (h .1 .1 .0) refl refl)
+        ∙ ap (λ (st : Station). run st (indexesCalls n (wirelessStatus ∷ []) (e ∷ []))) (index-told version (a ∷ b ∷ c ∷ none ∷ none ∷ []) batteryStatus (d .0) (h .1 .1 .1 .0) refl refl)
+        ∙ index-told version (a ∷ b ∷ c ∷ d ∷ none ∷ []) wirelessStatus (e .0) (h .1 .1 .1 .1 .0) refl refl
