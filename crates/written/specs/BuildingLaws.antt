@@ -5,7 +5,7 @@ use mathlib.Core.Bool.{Bool, true, false, cond, not, _&&_, _||_}
 use mathlib.Core.List.{List, [], _∷_, _++_}
 use native.Mathlib.Omega.{arith}
 use lib.Dec.{leb, ltb, eqb}
-use lib.ListN.{length, getD, set, replicate}
+use lib.ListN.{length, getD, set, replicate, length-set}
 use lib.Seq.{getD-set-same, getD-set-other, set-set, set-comm, set-getD}
 use borrow.Author.Tests.{le-leb, eq-eqb, ne-eqb}
 use Rattle.report.specs.Refusals.{noSuchPort}
@@ -35,7 +35,7 @@ use Rattle.serial.specs.GivingLaws.{given-exactly}
 use Rattle.store.specs.Stores.{padPort, IndexesFit}
 use Rattle.station.specs.declared.Station.{Station}
 use Rattle.station.specs.Stations.{portCount, receiverPosition, positionOf, noPort, portFor, withPort}
-use Rattle.station.specs.StationsLaws.{device-number, device-position, position-within}
+use Rattle.station.specs.StationsLaws.{device-number, device-position, position-within, same-port}
 use Rattle.station.specs.StationTaking.{TakeOutcome, storedAt, alsoAt, takeBy, takeRule}
 use Rattle.station.specs.StationCalls.{requestedAt, requestRule}
 use Rattle.sequence.specs.NumbersLaws.{device-port}
@@ -89,6 +89,48 @@ module _ (n wpid : ℕ) (serial : Serial) (reports : ℕ) where
             cond (ltb (slotOf asked) featureCount)
             (padPort wpid serial reports version (set features (slotOf asked) (record { 0 = cond (leb index 63) index 0 })))
             (padPort wpid serial reports version features)
+
+-- the receiver asked for a serial and answering, at its port
+module _ (n serial : ℕ) where
+  abbrev serialRequest : Request
+  serialRequest = waitingRequest longRegister serialRegister 1 (parameterFor n ∷ 0 ∷ 0 ∷ [])
+
+  abbrev askedReceiver : Port
+  askedReceiver = withWaiting freshPort 0 serialRequest
+
+  serial-waits : requestAt freshPort receiver longRegister serialRegister 1 (parameterFor n ∷ 0 ∷ 0 ∷ []) 0 shortBuffer .port ≡ askedReceiver
+  unfolding requestAt isForbiddenFrame requestBy roomFor firstAt sumOver emptyPlace freshPort
+  serial-waits = refl
+
+  abbrev serialReport : Report
+  serialReport = reportFrom hidppStart (serialReply n serial)
+
+  read-serial : readRule (serialReply n serial) ≡ reading.hidpp serialReport
+  unfolding readRule familyRule hidppRule reportFrom lengthOf
+  read-serial = refl
+
+  serial-answered : takeHidpp askedReceiver (messageOf serialReport (serialReply n serial)) .port ≡ freshPort
+  unfolding takeHidpp replyRule afterReply endedAt messageOf reportFrom firstAt emptyPlace freshPort waitingRequest withPlaces
+  serial-answered = refl
+
+  serial-given : isDevice n ≡ true → givenBy askedReceiver serialReport (serialReply n serial) ≡ serialOf n serial
+  unfolding reportFrom firstAt emptyPlace freshPort waitingRequest withPlaces
+  serial-given named =
+      given-exactly askedReceiver serialReport (serialReply n serial) n serial .1 (record {
+        receiver = refl;
+        long = refl;
+        byte2 = refl;
+        byte3 = refl;
+        named = named;
+        waits = refl;
+        asked = refl;
+        repeated = refl;
+        serial = omega arith;
+      })
+
+  serial-kept : (wpid reports : ℕ) (version : Version) (features : List FeatureIndex) → serialRule (padPort wpid serials.Unknown reports version features) serial .port ≡ padPort wpid (serials.Known serial) reports version features
+  unfolding serialRule padPort withSerial
+  serial-kept wpid reports version features = refl
 
 -- a device of a station whose receiver is fresh
 module _ (base : Station) (n : ℕ) (named : isDevice n ≡ true) (seven : length (base .ports) ≡ portCount) (idle : portFor base receiver ≡ freshPort) where
@@ -200,3 +242,57 @@ module _ (base : Station) (n : ℕ) (named : isDevice n ≡ true) (seven : lengt
         ∙ ap (λ (st : Station). run st (indexesCalls n (batteryStatus ∷ wirelessStatus ∷ []) (d ∷ e ∷ []))) (index-told version (a ∷ b ∷ none ∷ none ∷ none ∷ []) deviceName (c .0) (h .1 .1 .0) refl refl)
         ∙ ap (λ (st : Station). run st (indexesCalls n (wirelessStatus ∷ []) (e ∷ []))) (index-told version (a ∷ b ∷ c ∷ none ∷ none ∷ []) batteryStatus (d .0) (h .1 .1 .1 .0) refl refl)
         ∙ index-told version (a ∷ b ∷ c ∷ d ∷ none ∷ []) wirelessStatus (e .0) (h .1 .1 .1 .1 .0) refl refl
+
+  -- the receiver's port beside the device's
+  module _ (p : Port) where
+    with-receiver : Port → Station
+    with-receiver q = withPort (with-device p) receiverPosition q
+
+    longer : receiverPosition < length (set (base .ports) (positionOf n) p)
+    longer = omega (arith, length-set (base .ports) (positionOf n) p, seven)
+
+    receiver-there : (q : Port) → portFor (with-receiver q) receiver ≡ q
+    unfolding withPort with-device with-receiver positionOf
+    receiver-there q = getD-set-same (set (base .ports) (positionOf n) p) receiverPosition q noPort longer
+
+    device-there : (q : Port) → portFor (with-receiver q) n ≡ p
+    unfolding withPort with-device with-receiver
+    device-there q =
+        getD-set-other (set (base .ports) (positionOf n) p) receiverPosition (positionOf n) q noPort (λ e. apart (sym e)) ∙ at-device p
+
+    receiver-again : (q r : Port) → withPort (with-receiver q) receiverPosition r ≡ with-receiver r
+    unfolding withPort with-receiver
+    receiver-again q r = ap (λ (ports : List Port). record { ports = ports }) (set-set (with-device p .ports) receiverPosition q r)
+
+    receiver-fresh : with-receiver freshPort ≡ with-device p
+    unfolding with-receiver positionOf
+    receiver-fresh = ap (withPort (with-device p) receiverPosition) (sym (at-receiver p)) ∙ same-port (with-device p) receiverPosition
+
+    asked-receiver : (serial : ℕ) → run (with-device p) (asks receiver longRegister serialRegister (parameterFor n) 0 0 ∷ []) ≡ with-receiver (askedReceiver n serial)
+    unfolding run step requestRule positionOf with-receiver
+    asked-receiver serial =
+        ap (λ (x : Port). withPort (with-device p) receiverPosition (requestAt x receiver longRegister serialRegister 1 (parameterFor n ∷ 0 ∷ 0 ∷ []) 0 shortBuffer .port)) (at-receiver p)
+        ∙ ap (withPort (with-device p) receiverPosition) (serial-waits n serial)
+
+    told-receiver : (serial : ℕ) → run (with-receiver (askedReceiver n serial)) (take (serialReply n serial) ∷ []) ≡ with-device (serialRule p serial .port)
+    unfolding run step takeRule takeBy reportFrom positionOf
+    told-receiver serial =
+        let st : Station = with-receiver (askedReceiver n serial) in
+        let bytes : List ℕ = serialReply n serial in
+        let r : Report = serialReport n serial in
+        ap (λ (x : reading.Read). takeBy x bytes st .station) (read-serial n serial)
+        ∙ ap (λ (x : Port). alsoAt st (givenBy x r bytes) (storedAt st receiverPosition (takeHidpp x (messageOf r bytes))) .station) (receiver-there (askedReceiver n serial))
+        ∙ ap (λ (g : Given). alsoAt st g (storedAt st receiverPosition (takeHidpp (askedReceiver n serial) (messageOf r bytes))) .station) (serial-given n serial named)
+        ∙ (λ i. withPort (withPort st receiverPosition (serial-answered n serial i)) (positionOf n) (serialRule (device-there (askedReceiver n serial) i) serial .port))
+        ∙ ap (λ (x : Station). withPort x (positionOf n) (serialRule p serial .port)) (receiver-again (askedReceiver n serial) freshPort ∙ receiver-fresh)
+        ∙ again p (serialRule p serial .port)
+
+  -- its serial is told
+  pub serial-told : (wpid reports : ℕ) (version : Version) (features : List FeatureIndex) (serial : Serial) → run (with-device (padPort wpid serials.Unknown reports version features)) (serialCalls n serial) ≡ with-device (padPort wpid serial reports version features)
+  unfolding run
+  serial-told wpid reports version features serials.Unknown = refl
+  serial-told wpid reports version features (serials.Known serial) =
+      let p : Port = padPort wpid serials.Unknown reports version features in
+      ap (λ (st : Station). run st (take (serialReply n serial) ∷ [])) (asked-receiver p serial)
+      ∙ told-receiver p serial
+      ∙ ap with-device (serial-kept n serial wpid reports version features)
