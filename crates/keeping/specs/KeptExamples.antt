@@ -1,9 +1,9 @@
 -- What follows from the statement of a store that is read back, for texts and ports at hand.
-use Prim.Native.Nat.{ℕ, zero, suc, _≤_, _<_}
+use Prim.Native.Nat.{ℕ, zero, suc, _<_}
 use mathlib.Core.Path.{_≡_, refl, sym, _∙_, ap}
 use mathlib.Core.Logic.{_⊎_, inl, inr}
 use mathlib.Core.Bool.{true, false, false≢true}
-use mathlib.Core.List.{List, [], _∷_, _++_, map}
+use mathlib.Core.List.{List, [], _∷_, _++_}
 use native.Mathlib.Omega.{arith}
 use lib.ListN.{getD, replicate}
 use Rattle.report.specs.Ports.{deviceCount}
@@ -11,7 +11,7 @@ use Rattle.port.specs.declared.Port.{Port}
 use Rattle.port.specs.declared.Version.the-variants as versions
 use Rattle.port.specs.declared.Battery.the-variants as batteries
 use Rattle.port.specs.declared.Serial.the-variants as serials
-use Rattle.port.specs.Records.{placeCount, featureCount, emptyPlace, freshPort}
+use Rattle.port.specs.Records.{featureCount, emptyPlace, freshPort}
 use Rattle.text.specs.Words.{ascii}
 use Rattle.store.specs.Stores.{editionLine, storeText, padPort, kept, IndexesFit, PadFits, Store}
 use Rattle.store.specs.StoresExamples.{paired-and-asked}

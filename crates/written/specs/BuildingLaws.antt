@@ -1,15 +1,15 @@
 -- Laws of the calls that make a device known: what each does to a station on whose ports no request waits.
-use Prim.Native.Nat.{ℕ, zero, suc, _+_, _-_, _*_, _/_, _%_, _≤_, _<_}
+use Prim.Native.Nat.{ℕ, _/_, _%_, _≤_, _<_}
 use mathlib.Core.Path.{_≡_, refl, sym, _∙_, ap, subst}
-use mathlib.Core.Bool.{Bool, true, false, cond, not, _&&_, _||_}
+use mathlib.Core.Bool.{Bool, true, false, cond, not, _&&_}
 use mathlib.Core.List.{List, [], _∷_, _++_}
 use native.Mathlib.Omega.{arith}
 use lib.Dec.{leb, ltb, eqb}
-use lib.ListN.{length, getD, set, replicate, length-set}
-use lib.Seq.{getD-set-same, getD-set-other, set-set, set-comm, set-getD}
-use borrow.Author.Tests.{le-leb, eq-eqb, ne-eqb}
+use lib.ListN.{length, set, replicate, length-set}
+use lib.Seq.{getD-set-same, getD-set-other, set-set}
+use borrow.Author.Tests.{le-leb, ne-eqb}
 use Rattle.report.specs.Refusals.{noSuchPort}
-use Rattle.report.specs.Ports.{deviceCount, isDevice, isPort, receiver}
+use Rattle.report.specs.Ports.{isDevice, receiver}
 use Rattle.report.specs.Sizes.{hidppStart, djStart, lengthOf, joined2, joined4, hidppShort}
 use Rattle.report.specs.Reading as reading
 use Rattle.report.specs.Reading.{Report, reportFrom, readRule, familyRule, hidppRule, djRule}
@@ -24,19 +24,18 @@ use Rattle.port.specs.declared.Serial.{Serial}
 use Rattle.port.specs.declared.Serial.the-variants as serials
 use Rattle.port.specs.Records.{featureCount, emptyPlace, freshPort, madeFresh, withPairing, withVersion, withFeatures, withSerial, withPlaces, slotOf, featureSet, deviceInformation, deviceName, batteryStatus, wirelessStatus, knownFeatures}
 use Rattle.port.specs.Places.{firstAt, sumOver}
-use Rattle.port.specs.Waiting as waiting
 use Rattle.port.specs.Waiting.{roomFor, endedAt}
 use Rattle.hidpp.specs.HidppRecords.{indexFrom, withFoundFeature, afterReply}
 use Rattle.hidpp.specs.HidppTaking.{messageOf, replyRule, takeHidpp}
 use Rattle.dj.specs.DjTaking.{pairedRule, takeDj}
 use Rattle.request.specs.Requesting.{waitingRequest, requestBy, requestAt, withWaiting}
-use Rattle.serial.specs.Serials.{Given, noSerial, serialOf, isSerialReport, longRegister, serialRegister, parameterFor, givenBy, serialRule}
+use Rattle.serial.specs.Serials.{Given, noSerial, serialOf, longRegister, serialRegister, parameterFor, givenBy, serialRule}
 use Rattle.serial.specs.GivingLaws.{given-exactly}
 use Rattle.store.specs.Stores.{padPort, IndexesFit}
 use Rattle.station.specs.declared.Station.{Station}
 use Rattle.station.specs.Stations.{portCount, receiverPosition, positionOf, noPort, portFor, withPort}
 use Rattle.station.specs.StationsLaws.{device-number, device-position, position-within, same-port}
-use Rattle.station.specs.StationTaking.{TakeOutcome, storedAt, alsoAt, takeBy, takeRule}
+use Rattle.station.specs.StationTaking.{storedAt, alsoAt, takeBy, takeRule}
 use Rattle.station.specs.StationCalls.{requestedAt, requestRule}
 use Rattle.sequence.specs.NumbersLaws.{device-port}
 use Rattle.sequence.specs.Steps.{Call, take, request, step, run}
@@ -135,7 +134,7 @@ module _ (n serial : ℕ) where
 -- a device of a station whose receiver is fresh
 module _ (base : Station) (n : ℕ) (named : isDevice n ≡ true) (seven : length (base .ports) ≡ portCount) (idle : portFor base receiver ≡ freshPort) where
   -- the station with this port for the device
-  pub with-device : Port → Station
+  unfoldable pub with-device : Port → Station
   with-device p = withPort base (positionOf n) p
 
   at-device : (p : Port) → portFor (with-device p) n ≡ p
