@@ -1,14 +1,17 @@
 -- Laws of the stations that calls reach: each that a store restores is one.
 use Prim.Native.Nat.{ℕ, zero, suc, _+_, _/_, _%_, _≤_, _<_}
-use mathlib.Core.Path.{_≡_, refl, sym, _∙_, ap}
+use mathlib.Core.Path.{_≡_, refl, sym, _∙_, ap, subst}
 use mathlib.Core.Bool.{Bool, true, false, cond}
-use mathlib.Core.List.{List, [], _∷_, _++_, append-assoc}
+use mathlib.Core.List.{List, [], _∷_, _++_, append-assoc, append-nil}
 use native.Mathlib.Omega.{arith}
-use lib.ListN.{length, getD, replicate, length-append, length-replicate, getD-replicate}
+use lib.ListN.{length, getD, drop, replicate, length-append, length-replicate, getD-replicate, drop-of-length-le}
 use lib.Seq.{set-at, getD-append-add}
 use borrow.Author.Tests.{le-leb}
+use Rattle.report.specs.Refusals.{noRoom}
 use Rattle.report.specs.Ports.{deviceCount, isDevice, receiver}
+use Rattle.report.specs.Sizes.{byte}
 use Rattle.report.specs.declared.FeatureIndex.{FeatureIndex}
+use Rattle.frame.specs.Writing.{WriteOutcome, refused, wrote, fitsAt, pasted, frameAt}
 use Rattle.port.specs.declared.Port.{Port}
 use Rattle.port.specs.declared.Version.{Version}
 use Rattle.port.specs.declared.Version.the-variants as versions
@@ -17,16 +20,20 @@ use Rattle.port.specs.declared.Serial.the-variants as serials
 use Rattle.port.specs.Records.{featureCount, freshPort, knownFeatures}
 use Rattle.scan.specs.Exact.{SerialFits, VersionFits}
 use Rattle.serial.specs.Serials.{longRegister, serialRegister, parameterFor}
-use Rattle.store.specs.Stores.{storeText, padPort, IndexesFit, PadFits, StoredDevice, AllStored, Store}
+use Rattle.store.specs.Stores.{storeText, storeRule, padPort, IndexesFit, PadFits, StoredDevice, AllStored, Store}
+use Rattle.keeping.specs.Lines.{IsStore}
 use Rattle.keeping.specs.ReadingLaws.{unpaired-fresh}
-use Rattle.keeping.specs.KeepingLaws.{kept-paired}
+use Rattle.keeping.specs.KeepingLaws.{kept-paired, keeping}
 use Rattle.station.specs.declared.Station.{Station}
 use Rattle.station.specs.Stations.{portCount, receiverPosition, positionOf, noPort, portFor, withPort, freshStation}
 use Rattle.station.specs.StationsLaws.{device-position}
-use Rattle.sequence.specs.Steps.{Call, take, run}
+use Rattle.sequence.specs.Starts.{Start, fresh}
+use Rattle.sequence.specs.Steps.{Call, take, request, cancel, tick, write, restore, store, step, run}
+use Rattle.widths.specs.Widths.{ReadsBytes, AllRead}
+use Rattle.widths.specs.WidthsLaws.{reads-back}
 use Rattle.written.specs.Building.{pairing, asks, replies, versionCalls, indexCalls, indexesCalls, serialCalls, deviceCalls, devicesCalls, Bytes, TakesOrAsks, AllTakeOrAsk}
 use Rattle.written.specs.BuildingLaws.{run-append, noIndexes, with-device, paired, version-told, indexes-told, serial-told}
-use Rattle.written.specs.Written.{Built, AllWritten}
+use Rattle.written.specs.Written.{Built, WrittenBy, AllWritten}
 
 module _ (base : Station) (n : ℕ) (named : isDevice n ≡ true) (seven : length (base .ports) ≡ portCount) (idle : portFor base receiver ≡ freshPort) where
   abbrev at : Port → Station
@@ -215,11 +222,65 @@ built text ports s =
       so = all-told (s .devices) (s .six) (s .each) ∙ ap stationOf (sym (s .all));
     }
 
+-- and each store is written
+written-by : (text : List ℕ) → IsStore text → WrittenBy text
+written-by text (ports, s) =
+    let b = built text ports s in
+    record {
+      calls = b .calls;
+      bytes = b .bytes;
+      so = ap (λ (st : Station). storeText (st .ports)) (b .so) ∙ sym (s .so);
+    }
+
+-- what is lent are bytes
+byte-at : (bytes : List ℕ) → Bytes bytes → (i : ℕ) → byte bytes i < 256
+unfolding Bytes
+byte-at [] h i = omega arith
+byte-at (b ∷ bytes) h zero = h .0
+byte-at (b ∷ bytes) h (suc i) = byte-at bytes (h .1) i
+
+reads-bytes : (c : Call) → TakesOrAsks c → ReadsBytes c
+unfolding TakesOrAsks
+reads-bytes (take bytes) h = byte-at bytes h
+reads-bytes (request device byte2 byte3 ticks params offset lent) h = byte-at params (h .1 .0)
+reads-bytes (cancel device byte2 byte3) h = absurd h
+reads-bytes tick h = absurd h
+reads-bytes (write writer offset lent) h = absurd h
+reads-bytes (restore text) h = absurd h
+
+all-read : (cs : List Call) → AllTakeOrAsk cs → AllRead cs
+unfolding AllTakeOrAsk AllRead
+all-read [] h = tt
+all-read (c ∷ cs) h = (reads-bytes c (h .0), all-read cs (h .1))
+
+accepted : (st : Station) → Start st → (cs : List Call) → AllRead cs → IsStore (storeText (run st cs .ports))
+accepted st start cs h = keeping .written (storeText (run st cs .ports)) .1 (run st cs .ports, (reads-back .storable st start cs h, refl))
+
+-- with just room enough
+module _ (text : List ℕ) where
+  abbrev room : List ℕ
+  room = replicate (length text) 0
+
+  fitting : fitsAt (length text) 0 (length room) ≡ true
+  fitting = le-leb (0 + length text) (length room) (omega (arith, length-replicate {A = ℕ} (length text) 0))
+
+  whole : frameAt text 0 room .lent ≡ text
+  unfolding frameAt
+  whole =
+      let end : drop (0 + length text) room ≡ [] = drop-of-length-le room {i = 0 + length text} (omega (arith, length-replicate {A = ℕ} (length text) 0)) in
+      ap (λ (b : Bool). cond {A = WriteOutcome} b (record { answer = wrote (length text); lent = pasted text 0 room }) (record { answer = refused noRoom; lent = room }) .lent) fitting
+      ∙ ap (λ (l : List ℕ). text ++ l) end
+      ∙ append-nil text
+
+wrote-all : (st : Station) → step st (write store 0 (replicate (length (storeText (st .ports))) 0)) .lent ≡ storeText (st .ports)
+unfolding step storeRule
+wrote-all st = whole (storeText (st .ports))
+
 pub all-written : AllWritten
 all-written =
     record {
       built = built;
-      written = λ text s.
-          let b = built text (s .0) (s .1) in
-          record { calls = b .calls; bytes = b .bytes; so = ap (λ (st : Station). storeText (st .ports)) (b .so) ∙ sym (s .1 .so) };
+      exactly = λ text. (written-by text, (λ w. subst IsStore (w .so) (accepted freshStation fresh (w .calls) (all-read (w .calls) (w .bytes)))));
+      accepted = accepted;
+      wrote = wrote-all;
     }
