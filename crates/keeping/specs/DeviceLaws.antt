@@ -3,18 +3,15 @@ use Prim.Native.Nat.{ℕ, zero, suc, _+_, _^_, _≤_, _<_}
 use mathlib.Core.Path.{_≡_, refl, sym, _∙_, ap, subst}
 use mathlib.Core.Bool.{Bool, true, false, cond}
 use mathlib.Core.List.{List, [], _∷_, _++_, append-assoc, append-nil}
-use native.Mathlib.Nat.{zero-add, suc-add}
 use native.Mathlib.Omega.{arith}
 use lib.Dec.{ltb}
 use lib.ListN.{length}
 use Rattle.report.specs.declared.FeatureIndex.{FeatureIndex}
 use Rattle.port.specs.declared.Port.{Port}
-use Rattle.port.specs.declared.Version.{Version}
-use Rattle.port.specs.declared.Serial.{Serial}
 use Rattle.port.specs.Records.{featureCount}
 use Rattle.text.specs.Words.{newline, hex, decimal}
 use Rattle.text.specs.Texts.{tab, tabbed, digits16, digits32, versionText, serialText}
-use Rattle.scan.specs.Scans.{Scan, missing, found, andThen, pairScan, wordScan, isDigit}
+use Rattle.scan.specs.Scans.{Scan, missing, found, andThen, isDigit}
 use Rattle.scan.specs.ScansLaws.{not-missing, same-value, same-rest}
 use Rattle.scan.specs.Exact.{Reads, SerialFits, VersionFits}
 use Rattle.scan.specs.ExactLaws.{decimal-read, hex-read, serial-read, version-read, pair-read, word-read}

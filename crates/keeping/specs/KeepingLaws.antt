@@ -1,8 +1,8 @@
 -- Laws of a store that is read back.
-use Prim.Native.Nat.{ℕ, zero, suc, _+_, _≤_, _<_}
+use Prim.Native.Nat.{ℕ, zero, suc, _+_, _<_}
 use mathlib.Core.Path.{_≡_, refl, sym, _∙_, ap, subst}
 use mathlib.Core.Logic.{_↔_}
-use mathlib.Core.Bool.{Bool, true, false, false≢true}
+use mathlib.Core.Bool.{Bool, true, false}
 use mathlib.Core.List.{List, [], _∷_, _++_, map}
 use native.Mathlib.Omega.{arith}
 use lib.ListN.{length, getD, length-append, List·getD-append}
@@ -13,7 +13,7 @@ use Rattle.port.specs.Records.{freshPort}
 use Rattle.text.specs.Texts.{pairedText}
 use Rattle.store.specs.Stores.{edition, editionLine, padLine, storeText, padPort, kept, PadFits, StoredDevice, AllStored, Store}
 use Rattle.restore.specs.Restoring.{StoreRead, storeOf, ofOther, brokenAt, readStore, RestoreAnswer, restored, refused, refusedAt, Restoring, restoredBy, restorePorts}
-use Rattle.keeping.specs.Lines.{IsStore, OtherEdition, BrokenAt}
+use Rattle.keeping.specs.Lines.{OtherEdition, BrokenAt}
 use Rattle.keeping.specs.ReadingLaws.{linesFrom, fresh-stored, paired-line, no-line, store-lines, reads-exactly, other-exactly}
 use Rattle.keeping.specs.LinesLaws.{broken-exactly, line-bounds, one-of}
 use Rattle.keeping.specs.Keeping.{Storable, ReadBack, accepted, refusedOther, refusedBroken, Kept}

@@ -4,3 +4,5 @@ pub mod ReadingLaws
 pub mod LinesLaws
 pub mod Keeping
 pub mod KeepingLaws
+pub mod KeepingExamples
+pub mod KeptExamples

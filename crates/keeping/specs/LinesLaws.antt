@@ -3,12 +3,10 @@ use Prim.Native.Nat.{ℕ, zero, suc, _+_, _-_, _/_, _%_, _≤_, _<_}
 use mathlib.Core.Path.{_≡_, refl, sym, _∙_, ap, subst}
 use mathlib.Core.Logic.{_↔_, _⊎_, inl, inr}
 use mathlib.Core.Bool.{Bool, true, false, cond}
-use mathlib.Core.List.{List, [], _∷_, _++_, append-assoc, map}
+use mathlib.Core.List.{List, [], _∷_, _++_, append-assoc}
 use native.Mathlib.Nat.{not-suc-le-zero}
-use native.Mathlib.Numerals.{add-one}
 use native.Mathlib.Omega.{arith}
 use lib.Dec.{ltb, eqb}
-use lib.ListN.{length}
 use borrow.Author.Tests.{eqb-true, eqb-false, ne-eqb, ltb-true, ltb-false}
 use Rattle.report.specs.Ports.{deviceCount}
 use Rattle.report.specs.declared.FeatureIndex.{FeatureIndex}
@@ -25,11 +23,11 @@ use Rattle.scan.specs.Scans.{Scan, missing, found, pairScan, wordScan, capitalD
 use Rattle.scan.specs.ScansLaws.{not-missing}
 use Rattle.scan.specs.Exact.{Reads}
 use Rattle.scan.specs.ExactLaws.{capital-of}
-use Rattle.store.specs.Stores.{edition, editionLine, indexFields, padLine, Store}
+use Rattle.store.specs.Stores.{edition, editionLine, indexFields, padLine}
 use Rattle.restore.specs.Restoring.{deviceScan, StoreRead, storeOf, ofOther, brokenAt, withFirst, rowIn, devicesIn, editionScan, byEdition, readStore}
 use Rattle.keeping.specs.DeviceLaws.{device-read}
 use Rattle.keeping.specs.Lines.{firstLines, IsStore, OtherEdition, BrokenAt, OneOf}
-use Rattle.keeping.specs.ReadingLaws.{store-not-other, store-not-broken, other-not-broken, same-store, same-line, is-missing, none-in-nothing, devices-missing, devices-found, devices-never-other, edition-read, read-first, reads-exactly, other-exactly}
+use Rattle.keeping.specs.ReadingLaws.{store-not-other, store-not-broken, other-not-broken, same-store, same-line, is-missing, none-in-nothing, devices-missing, devices-found, edition-read, read-first, reads-exactly, other-exactly}
 
 -- a text without a newline
 unfoldable Plain : List ℕ → Type 0

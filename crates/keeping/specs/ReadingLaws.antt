@@ -1,26 +1,26 @@
 -- Laws of reading a store: it is accepted exactly where it is one, and refused with 15 exactly where its edition is another.
-use Prim.Native.Nat.{ℕ, zero, suc, _+_, _≤_, _<_}
-use mathlib.Core.Path.{_≡_, refl, sym, _∙_, ap, subst}
+use Prim.Native.Nat.{ℕ, zero, suc, _+_, _<_}
+use mathlib.Core.Path.{_≡_, refl, sym, _∙_, ap}
 use mathlib.Core.Logic.{_↔_}
-use mathlib.Core.Bool.{Bool, true, false, cond, true≢false, false≢true}
+use mathlib.Core.Bool.{Bool, true, false, cond, false≢true}
 use mathlib.Core.List.{List, [], _∷_, _++_, append-assoc}
 use native.Mathlib.Numerals.{add-one}
 use native.Mathlib.Omega.{arith}
 use lib.Dec.{eqb}
-use lib.ListN.{length, take}
+use lib.ListN.{length}
 use lib.Seq.{take-at}
-use borrow.Author.Tests.{eqb-true, eqb-false, eq-eqb, ne-eqb}
+use borrow.Author.Tests.{eqb-true, eqb-false, ne-eqb}
 use Rattle.report.specs.Ports.{deviceCount}
 use Rattle.port.specs.declared.Port.{Port}
 use Rattle.port.specs.Records.{freshPort}
 use Rattle.text.specs.Words.{ascii, newline, decimal}
 use Rattle.text.specs.Texts.{eachFrom, tab, pairedText, pairedLines}
-use Rattle.scan.specs.Scans.{Scan, missing, found, numberScan, wordScan}
-use Rattle.scan.specs.ScansLaws.{not-missing, same-value, same-rest}
+use Rattle.scan.specs.Scans.{Scan, missing, found, numberScan}
+use Rattle.scan.specs.ScansLaws.{not-missing, same-value}
 use Rattle.scan.specs.Exact.{Reads}
 use Rattle.scan.specs.ExactLaws.{number-read, word-read, pair-read}
 use Rattle.store.specs.Stores.{edition, editionLine, padLine, storeText, kept, StoredDevice, AllStored, Store}
-use Rattle.restore.specs.Restoring.{portOf, deviceScan, StoreRead, storeOf, ofOther, brokenAt, withFirst, Row, rowBy, rowIn, devicesIn, editionScan, byEdition, readStore}
+use Rattle.restore.specs.Restoring.{deviceScan, StoreRead, storeOf, ofOther, brokenAt, withFirst, Row, rowBy, rowIn, devicesIn, editionScan, byEdition, readStore}
 use Rattle.keeping.specs.DeviceLaws.{padText, PairedStored, pad-stored, line-text, device-read}
 use Rattle.keeping.specs.Lines.{OtherEdition}
 

@@ -1,0 +1,4 @@
+pub mod Building
+pub mod BuildingLaws
+pub mod Written
+pub mod WrittenLaws
