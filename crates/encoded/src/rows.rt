@@ -148,7 +148,7 @@ pub fn of_restored(answer: Restored) -> [u8; ROW]
 {
     match answer {
         Restored::Refused(refusal) => [17, refusal.number(), 0, 0, 0, 0, 0, 0, 0, 0],
-        Restored::RefusedAt(refusal, line) => { [17, refusal.number(), line, 0, 0, 0, 0, 0, 0, 0] }
+        Restored::RefusedAt(refusal, line) => [17, refusal.number(), line, 0, 0, 0, 0, 0, 0, 0],
         Restored::Done => [18, 0, 0, 0, 0, 0, 0, 0, 0, 0],
     }
 }
