@@ -10,7 +10,8 @@ use Rattle.station.specs.Stations.{portCount}
 use Rattle.sequence.specs.Starts.{Start}
 use Rattle.sequence.specs.Steps.{Call, run, returnedBy}
 use Rattle.sequence.specs.Independence as ports
-use Rattle.sequence.specs.Histories as program
+use Rattle.sequence.specs.Histories as histories
+use Rattle.sequence.specs.Sequences.{Sequences}
 use Rattle.encoded.specs.declared.RunResult.{RunResult}
 use Rattle.encoded.specs.Decoding.{calls, decode}
 use Rattle.encoded.specs.Encoding.{Bytes, AllWithin, Encoded}
@@ -23,7 +24,9 @@ pub record Demand3 : Type 0 where
   -- two orders of calls in which each device has its own calls, the ticks, all calls for 255 and the accepted reads in one sequence end in the same station
   pub orders : (st : Station) → Start st → (cs ds : List Call) → ports.SameOrders st cs ds → run st cs ≡ run st ds
   -- every history of the program's calls, of any length, from any station: every answer, every lent byte and the final station are those of the rules' run
-  pub program : (st : Station) (ms : List program.Made) → program.History st ms → program.ByTheRules st ms
+  pub program : (st : Station) (ms : List histories.Made) → histories.History st ms → histories.ByTheRules st ms
+  -- and from a start it is made of sequences: each accepted read ends one, and begins the next on the station that it restores, which is a start
+  pub sequences : (st : Station) → Start st → (ms : List histories.Made) → histories.History st ms → Sequences st ms
   -- a run of encoded calls by the program: the final station, every lent byte and every row of the answers are those of the rules' run of the calls
   pub run-encoded : (st : Station) (encoded arena answers : List ℕ) (r : RunResult) (arenaAfter answersAfter : List ℕ) → EncodedPromise st encoded arena answers r arenaAfter answersAfter → (cs : List Call) → decode encoded arena ≡ calls cs → rowsSize cs ≤ length answers → outcomeOf r arenaAfter answersAfter ≡ ran st cs answers
   -- every list of calls within the encoding's bounds has an encoding
