@@ -48,6 +48,8 @@ writerStep st (commands.led port leds) offset params lent =
     steps.step st (steps.write (steps.led port leds) offset lent)
 writerStep st commands.list offset params lent =
     steps.step st (steps.write steps.list offset lent)
+writerStep st commands.store offset params lent =
+    steps.step st (steps.write steps.list offset lent)
 writerStep st (commands.frame port byte2 byte3) offset params lent =
     steps.writeStep st (writing.requestFrameRule port byte2 byte3 params offset lent)
 
@@ -66,6 +68,7 @@ commandRule st number (commands.take bytes) = stepped (steps.step st (steps.take
 commandRule st number (commands.cancel port byte2 byte3) =
     stepped (steps.step st (steps.cancel port byte2 byte3))
 commandRule st number commands.tick = stepped (steps.step st steps.tick)
+commandRule st number (commands.restore bytes) = keeping st (noCallText number)
 commandRule st number (commands.read bytes) = keeping st (readingText (readRule bytes))
 commandRule st number (commands.mouse payload) = keeping st (movedText (mouseRule payload))
 commandRule st number commands.dump = keeping st (dumpText st)

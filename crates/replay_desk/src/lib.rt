@@ -107,6 +107,7 @@ fn make(
         Writer::GetPaired => station.get_paired(lent, offset),
         Writer::Led { port, leds } => station.led(port, leds, lent, offset),
         Writer::List => station.list(lent, offset),
+        Writer::Store => station.list(lent, offset),
         Writer::Frame { port, byte2, byte3 } => {
             frame::request_frame(port, byte2, byte3, params, lent, offset)
         }
@@ -184,6 +185,7 @@ fn respond(
             return cancel(station, port, byte2, byte3, buffer, at);
         }
         Command::Tick => return tick(station, buffer, at),
+        Command::Restore => replay_render::put_no_call(buffer, at, number),
         Command::Read => replay_render::put_reading(buffer, at, report::read(bytes)),
         Command::Mouse => replay_render::put_moved(buffer, at, mouse::movement(bytes)),
         Command::Dump => replay_dump::put_dump(buffer, at, station),
@@ -196,11 +198,12 @@ fn respond(
     Shown { next, station }
 }
 
-// Answers one line, which comes without its newline and has this number. Where there is less room from `at` on than the longest answer takes, nothing is done: refusal 10.
+// Answers one line, which comes without its newline and has this number. Where there is less room from `at` on than the longest answer takes, nothing is done: refusal 10. `bytes` are for those of the call; they are lent so that they need not be made for each line.
 pub fn answer_line(
     station: Station,
     number: usize,
     line: &[u8],
+    bytes: &mut [u8; replay_line::MOST_LENT],
     buffer: &mut [u8],
     at: usize,
 ) -> Answered
@@ -213,11 +216,11 @@ pub fn answer_line(
             station,
         };
     }
-    let parsed = replay_line::parse_line(line);
+    let parsed = replay_line::parse_line(line, bytes);
     let command = parsed.command;
-    let bytes = parsed.bytes;
     let count = parsed.count;
-    let shown = respond(station, number, command, &bytes[..count], buffer, at);
+    let held: &[u8] = bytes;
+    let shown = respond(station, number, command, &held[..count], buffer, at);
     let after = shown.station;
     Answered {
         answer: Written::Bytes(shown.next - at),

@@ -40,15 +40,19 @@ returns-6 c = rw (c .before .before .before .before .enum-told2 .given .1) (show
 
 returns-7 : tie.Need-returns-7
 unfolding commandRule
-returns-7 c = rw (c .before .before .before .before .before .enum-told5 .given .1) (shown (c .before .before .before .before .before .before .before .before .before .pre .0) (lit≤ tt) (ap (λ (r : Read). keeping (c .before .before .before .before .before .before .before .before .before .args .station) (readingText r)) (c .before .before .before .read .ensures)) (c .before .before .put-reading .ensures))
+returns-7 c = rw (c .before .before .before .before .enum-told5 .given .1) (shown (c .before .before .before .before .before .before .before .before .pre .0) (lit≤ tt) refl (c .before .before .put-no-call2 .ensures))
 
 returns-8 : tie.Need-returns-8
 unfolding commandRule
-returns-8 c = rw (c .before .before .before .before .before .enum-told6 .given .1) (shown (c .before .before .before .before .before .before .before .before .before .pre .0) (lit≤ tt) (ap (λ (m : Movement). keeping (c .before .before .before .before .before .before .before .before .before .args .station) (movedText m)) (c .before .before .before .movement .ensures)) (c .before .before .put-moved .ensures))
+returns-8 c = rw (c .before .before .before .before .before .enum-told6 .given .1) (shown (c .before .before .before .before .before .before .before .before .before .pre .0) (lit≤ tt) (ap (λ (r : Read). keeping (c .before .before .before .before .before .before .before .before .before .args .station) (readingText r)) (c .before .before .before .read .ensures)) (c .before .before .put-reading .ensures))
 
 returns-9 : tie.Need-returns-9
 unfolding commandRule
-returns-9 c = rw (c .before .before .before .before .enum-told7 .given .1) (shown (c .before .before .before .before .before .before .before .before .pre .0) (lit≤ tt) refl (c .before .before .put-dump .ensures))
+returns-9 c = rw (c .before .before .before .before .before .enum-told7 .given .1) (shown (c .before .before .before .before .before .before .before .before .before .pre .0) (lit≤ tt) (ap (λ (m : Movement). keeping (c .before .before .before .before .before .before .before .before .before .args .station) (movedText m)) (c .before .before .before .movement .ensures)) (c .before .before .put-moved .ensures))
+
+returns-10 : tie.Need-returns-10
+unfolding commandRule
+returns-10 c = rw (c .before .before .before .before .enum-told8 .given .1) (shown (c .before .before .before .before .before .before .before .before .pre .0) (lit≤ tt) refl (c .before .before .put-dump .ensures))
 
 pub respond-spec : {M : Type 1} → statement M
 respond-spec =
@@ -71,6 +75,8 @@ respond-spec =
     returns-3
     (λ c. search needs)
     (λ c κs. search needs)
+    (λ c. search needs)
+    (λ c κs. search needs)
     (λ c κs. search needs)
     (λ c. search needs)
     (λ c κs. search needs)
@@ -89,4 +95,6 @@ respond-spec =
     (λ c. search needs)
     returns-8
     (λ c. search needs)
-    returns-9)
+    returns-9
+    (λ c. search needs)
+    returns-10)
