@@ -1,23 +1,12 @@
 -- Document 01, "Port listing".
 use Prim.Native.Nat.{ℕ, _+_}
 use mathlib.Core.List.{List, [], _∷_, _++_}
-use mathlib.Core.Bool.{cond}
-use lib.ListN.{length, take}
-use Rattle.report.specs.Ports.{deviceCount}
-use Rattle.text.specs.Words.{ascii, newline, hex, decimal}
-use Rattle.text.specs.Texts.{each, digits16, digits32, byteMost, linkText, linkMost, versionText, versionMost, batteryText, batteryMost}
+use lib.ListN.{length}
+use Rattle.text.specs.Words.{ascii, hex, decimal}
+use Rattle.text.specs.Texts.{tabbed, pairedText, pairedLines, digits16, digits32, byteMost, linkText, linkMost, versionText, versionMost, batteryText, batteryMost}
 use Rattle.frame.specs.Writing.{WriteOutcome, frameAt}
 use Rattle.port.specs.Places.{countWaiting}
 use Rattle.port.specs.declared.Port.{Port}
-
-abbrev pub tab : ℕ
-tab = 9
-
--- tabs between fields, and a newline at the end
-abbrev pub tabbed : List (List ℕ) → List ℕ
-tabbed [] = newline ∷ []
-tabbed (field ∷ []) = field ++ (newline ∷ [])
-tabbed (field ∷ next ∷ fields) = field ++ (tab ∷ tabbed (next ∷ fields))
 
 abbrev pub fieldNames : List (List ℕ)
 fieldNames =
@@ -51,13 +40,12 @@ abbrev pub lineMost : ℕ
 lineMost =
     byteMost + digits16 + digits32 + linkMost + versionMost + batteryMost + byteMost + length fieldNames
 
--- paired devices alone
-unfoldable pub deviceText : (number : ℕ) → Port → List ℕ
-deviceText number p = cond (p .paired) (deviceLine number p) []
+-- of paired devices alone
+abbrev pub deviceText : (number : ℕ) → Port → List ℕ
+deviceText number p = pairedText deviceLine number p
 
--- the device at each position has the number after it
-unfoldable pub lines : List Port → List ℕ
-lines ports = each (λ (position : ℕ) (p : Port). deviceText (position + 1) p) (take deviceCount ports)
+abbrev pub lines : List Port → List ℕ
+lines ports = pairedLines deviceLine ports
 
 -- header first, then paired devices in number order
 unfoldable pub listing : List Port → List ℕ

@@ -2,17 +2,11 @@
 ghost use mathlib.Core.Path.{_≡_};
 ghost use Prim.Native.Nat.{_*_};
 ghost use Rattle.text.specs.Putting.{Puts};
-ghost use Rattle.frame.specs.Writing.{frameAt};
 ghost use Rattle.report.specs.Ports.{deviceCount};
 ghost use Rattle.listing.specs.Listing.{deviceLine, deviceText, lineMost, lines, listingRule};
 ghost use Rattle.frame.specs.FrameContracts.{writtenOutcome};
 use frame::Written;
 use port::Port;
-use report::Refusal;
-
-const TAB: u8 = b'\t';
-
-const NEWLINE: u8 = b'\n';
 
 // Devices 1 to 6 have positions 0 to 5 among the ports; the receiver comes last.
 const DEVICES: usize = report::DEVICES as usize;
@@ -42,19 +36,19 @@ fn put_line(buffer: &mut [u8], at: usize, port: Port, number: u8) -> usize
     let battery = port.battery;
     let places = port.places;
     let at = text::put_small(buffer, at, number);
-    let at = text::put_byte(buffer, at, TAB);
+    let at = text::put_byte(buffer, at, text::TAB);
     let at = text::put_hex(buffer, at, text::DIGITS_16, port.wpid as usize);
-    let at = text::put_byte(buffer, at, TAB);
+    let at = text::put_byte(buffer, at, text::TAB);
     let at = text::put_hex(buffer, at, text::DIGITS_32, port.reports as usize);
-    let at = text::put_byte(buffer, at, TAB);
+    let at = text::put_byte(buffer, at, text::TAB);
     let at = text::put_link(buffer, at, port.up);
-    let at = text::put_byte(buffer, at, TAB);
+    let at = text::put_byte(buffer, at, text::TAB);
     let at = text::put_version(buffer, at, version);
-    let at = text::put_byte(buffer, at, TAB);
+    let at = text::put_byte(buffer, at, text::TAB);
     let at = text::put_battery(buffer, at, battery);
-    let at = text::put_byte(buffer, at, TAB);
+    let at = text::put_byte(buffer, at, text::TAB);
     let at = text::put_small(buffer, at, port::count_waiting(places));
-    text::put_byte(buffer, at, NEWLINE)
+    text::put_byte(buffer, at, text::NEWLINE)
 }
 
 // The line of a paired device, and nothing of an unpaired one.
@@ -81,18 +75,6 @@ fn put_lines(buffer: &mut [u8], at: usize, ports: [Port; port::PORTS]) -> usize
     next
 }
 
-// Writes a whole text at its offset, or answers 10.
-fn write_at(bytes: &[u8], buffer: &mut [u8], offset: usize) -> Written
-    ensures { λ r. ⌜ writtenOutcome r (now (buffer .exit)) ≡ frameAt (now (bytes .entry)) offset (now (buffer .entry)) ⌝ }
-{
-    let size = bytes.len();
-    if frame::fits(size, offset, buffer.len()) {
-        text::put_word(&mut buffer[offset..], 0, bytes);
-        return Written::Bytes(size);
-    }
-    Written::Refused(Refusal::NoRoom)
-}
-
 // Writes the listing of the paired devices among the ports: refusal 10.
 pub fn write_listing(ports: [Port; port::PORTS], buffer: &mut [u8], offset: usize) -> Written
     ensures written { λ r. ⌜ writtenOutcome r (now (buffer .exit)) ≡ listingRule ports offset (now (buffer .entry)) ⌝ }
@@ -104,5 +86,5 @@ pub fn write_listing(ports: [Port; port::PORTS], buffer: &mut [u8], offset: usiz
         b"port\twpid\treports\tlink\tversion\tbattery\twaiting\n",
     );
     let size = put_lines(&mut bytes, size, ports);
-    write_at(&bytes[..size], buffer, offset)
+    text::write_at(&bytes[..size], buffer, offset)
 }

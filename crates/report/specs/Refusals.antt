@@ -1,4 +1,4 @@
--- Document 01, "Refusal numbers".
+-- Document 01, "Refusal numbers", and document 02, Ask 3 (15 and 16).
 use Prim.Native.Nat.{ℕ}
 
 -- take: the report has no byte
@@ -56,3 +56,11 @@ notWaiting = 13
 -- switch: a device bit above 5 is set; this comes before 10
 abbrev pub reservedBits : ℕ
 reservedBits = 14
+
+-- restore: the first line is that of a store of another edition
+abbrev pub otherEdition : ℕ
+otherEdition = 15
+
+-- restore: a line breaks the rules of a store; this refusal comes with the line's number
+abbrev pub brokenLine : ℕ
+brokenLine = 16

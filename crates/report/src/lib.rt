@@ -15,7 +15,7 @@ pub struct Device(pub u8);
 // A feature index, or a sub id of HID++ 1.0: byte 2 of a HID++ report.
 pub struct FeatureIndex(pub u8);
 
-// Why a call was refused. 01, "Refusal numbers", in the order of its table.
+// Why a call was refused. 01, "Refusal numbers", in the order of its table, and then what 02 adds.
 pub enum Refusal {
     EmptyReport,
     UnknownId,
@@ -31,10 +31,12 @@ pub enum Refusal {
     PlacesFull,
     NotWaiting,
     ReservedBits,
+    OtherEdition,
+    BrokenLine,
 }
 
 impl Refusal {
-    // The number of document 01.
+    // The number of document 01, or 02.
     pub fn number(self) -> u8
         ensures number { λ r. ⌜ r ≡ numberOf self ⌝ }
     {
@@ -53,6 +55,8 @@ impl Refusal {
             Refusal::PlacesFull => 12,
             Refusal::NotWaiting => 13,
             Refusal::ReservedBits => 14,
+            Refusal::OtherEdition => 15,
+            Refusal::BrokenLine => 16,
         }
     }
 }

@@ -1,2 +1,3 @@
 pub mod Restoring
 pub mod RestoreContracts
+pub mod RestoringLaws

@@ -6,3 +6,4 @@ pub mod Texts
 pub mod EachLaws
 pub mod PutDigitsLaws
 pub mod TextExamples
+pub mod WritingTextLaws

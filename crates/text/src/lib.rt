@@ -1,13 +1,23 @@
 // Words, numbers and what a port holds, as bytes of text put into a lent buffer from an offset on.
+ghost use mathlib.Core.Path.{_≡_};
 ghost use mathlib.Core.List.{[], _∷_};
 ghost use Prim.Native.Nat.{_<_};
 ghost use lib.ListN.{length};
+ghost use Rattle.frame.specs.Writing.{frameAt};
+ghost use Rattle.frame.specs.FrameContracts.{writtenOutcome};
 ghost use Rattle.text.specs.Words.{digit, hex, decimal};
 ghost use Rattle.text.specs.Putting.{Puts};
 ghost use Rattle.text.specs.Texts.{numberMost, byteMost, linkText, linkMost, versionText, versionMost, batteryText, batteryMost, serialText, serialMost};
+use frame::Written;
 use port::Battery;
 use port::Serial;
 use port::Version;
+use report::Refusal;
+
+// The byte between two fields of a line, and the byte at its end.
+pub const TAB: u8 = b'\t';
+
+pub const NEWLINE: u8 = b'\n';
 
 // The hexadecimal digits of a number of 8, of 16 and of 32 bits.
 pub const DIGITS_8: u8 = 2;
@@ -152,4 +162,16 @@ pub fn put_serial(buffer: &mut [u8], at: usize, serial: Serial) -> usize
         Serial::Unknown => put_byte(buffer, at, b'-'),
         Serial::Known(number) => put_hex(buffer, at, DIGITS_32, number as usize),
     }
+}
+
+// Writes a whole text at its offset, or answers 10.
+pub fn write_at(bytes: &[u8], buffer: &mut [u8], offset: usize) -> Written
+    ensures written { λ r. ⌜ writtenOutcome r (now (buffer .exit)) ≡ frameAt (now (bytes .entry)) offset (now (buffer .entry)) ⌝ }
+{
+    let size = bytes.len();
+    if frame::fits(size, offset, buffer.len()) {
+        put_word(&mut buffer[offset..], 0, bytes);
+        return Written::Bytes(size);
+    }
+    Written::Refused(Refusal::NoRoom)
 }

@@ -1,17 +1,18 @@
 -- `listing::put_device` meets its contract: a paired device's line, or nothing.
 use lib.Dec.{lit≤}
 use Rattle.text.specs.PuttingLaws.{at-most, nothing-put}
-use Rattle.listing.specs.Listing.{deviceLine, deviceText, lineMost}
+use Rattle.text.specs.Texts.{pairedText}
+use Rattle.listing.specs.Listing.{deviceLine, lineMost}
 use borrow.Author.Needs.{needs}
 use Rattle.listing.proofs.put_device.Statement.{statement}
 use Rattle.listing.proofs.put_device.Tie as tie
 
 returns : tie.Need-returns
-unfolding deviceText deviceLine
+unfolding pairedText deviceLine
 returns c = rw (c .before .before .before .before .if1 .taken) (c .before .before .put-line .ensures)
 
 returns-2 : tie.Need-returns-2
-unfolding deviceText
+unfolding pairedText
 returns-2 c = rw (c .if1 .left) (at-most lineMost (lit≤ tt) (nothing-put _ _))
 
 pub put-device-spec : {M : Type 1} → statement M

@@ -6,7 +6,8 @@ use Rattle.text.specs.PuttingLaws.{kept-length}
 use Rattle.text.specs.EachLaws.{Putting, each-begun, each-put, each-counted}
 use Rattle.port.specs.declared.Port.{Port}
 use Rattle.report.specs.Ports.{deviceCount}
-use Rattle.listing.specs.Listing.{deviceText, lineMost, lines}
+use Rattle.text.specs.Texts.{pairedLines}
+use Rattle.listing.specs.Listing.{deviceText, lineMost}
 use Rattle.listing.proofs.put_lines.Statement.{statement}
 use Rattle.listing.proofs.put_lines.Tie as tie
 
@@ -26,7 +27,7 @@ same-length : tie.Need-same-length Inv-loop μ-loop
 same-length c = kept-length (c .before .loop .inv .so)
 
 returns : tie.Need-returns Inv-loop μ-loop
-unfolding lines
+unfolding pairedLines
 returns c = each-counted (c .before .loop .inv) (omega (arith, c .loop-test .left))
 
 pub put-lines-spec : {M : Type 1} → statement M

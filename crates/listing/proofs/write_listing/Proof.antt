@@ -1,7 +1,7 @@
 -- `listing::write_listing` meets its contract: the array has room for every listing.
 use lib.Dec.{lit≤}
 use Rattle.text.specs.PuttingLaws.{then-put}
-use Rattle.listing.specs.ListingWriteLaws.{front-within, front-length, front-written}
+use Rattle.text.specs.WritingTextLaws.{front-within, front-length, front-written}
 use Rattle.listing.specs.Listing.{headerLine, listing, listingRule}
 use borrow.Author.Needs.{needs}
 use Rattle.listing.proofs.write_listing.Statement.{statement}

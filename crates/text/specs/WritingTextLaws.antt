@@ -1,4 +1,4 @@
--- Laws of writing the listing: a text put at the front of an array, and at the front of the part from its offset on.
+-- Laws of writing a whole text: a text put at the front of an array, and at the front of the part from its offset on.
 use Prim.Native.Nat.{ℕ, _+_, _-_, _≤_}
 use mathlib.Core.Path.{_≡_, refl, sym, _∙_, ap}
 use mathlib.Core.List.{List, _++_}

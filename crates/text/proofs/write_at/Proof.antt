@@ -1,4 +1,4 @@
--- `listing::write_at` meets its contract: the whole text at its offset, or 10.
+-- `text::write_at` meets its contract: the whole text at its offset, or 10.
 use mathlib.Core.Path.{refl, sym, _∙_}
 use Prim.Native.Nat.{_+_, _≤_}
 use native.Mathlib.Omega.{arith}
@@ -6,10 +6,10 @@ use lib.ListN.{length}
 use denote.Ref.{now}
 use borrow.Author.Tests.{leb-true}
 use Rattle.frame.specs.WritingLaws.{no-room}
-use Rattle.listing.specs.ListingWriteLaws.{put-placed}
+use Rattle.text.specs.WritingTextLaws.{put-placed}
 use borrow.Author.Needs.{needs}
-use Rattle.listing.proofs.write_at.Statement.{statement}
-use Rattle.listing.proofs.write_at.Tie as tie
+use Rattle.text.proofs.write_at.Statement.{statement}
+use Rattle.text.proofs.write_at.Tie as tie
 
 sub-put-word : tie.Need-sub-put-word
 sub-put-word c =

@@ -1,0 +1,5 @@
+pub mod Scans
+pub mod ScanContracts
+pub mod ScansLaws
+pub mod Exact
+pub mod ExactLaws
