@@ -20,8 +20,18 @@ static uint64_t take_weight(const struct plain_answer *answer)
     }
 }
 
-uint64_t plain_measure(const uint8_t *calls, size_t calls_length, uint8_t *buffer,
-                       size_t buffer_length)
+static uint64_t restore_weight(struct plain_station *station, const uint8_t *text, size_t length)
+{
+    uint8_t line;
+    uint8_t refusal = plain_restore(station, text, length, &line);
+
+    if (refusal == 0)
+        return RESTORED;
+    return refusal == PLAIN_BROKEN_LINE ? (uint64_t)refusal + (uint64_t)LINE * line : refusal;
+}
+
+uint64_t plain_measure(const uint8_t *calls, size_t calls_length, const uint8_t *text, size_t text_length,
+                       uint8_t *buffer, size_t buffer_length)
 {
     struct plain_station station;
     struct plain_answer answer;
@@ -52,6 +62,13 @@ uint64_t plain_measure(const uint8_t *calls, size_t calls_length, uint8_t *buffe
             plain_tick(&station, ended);
             for (int j = 0; j < PLAIN_PORTS; j++)
                 sum += ended[j];
+            break;
+        case STORE:
+            sum += plain_store(&station, buffer, buffer_length, 0, &written);
+            sum += written;
+            break;
+        case RESTORE:
+            sum += restore_weight(&station, text, text_length);
             break;
         default:
             sum += plain_list(&station, buffer, buffer_length, 0, &written);

@@ -11,7 +11,7 @@ enum { BATTERY = 3, WIRELESS_STATUS = 4 };
 /* A long register of the receiver, by its name in document 004, and the first parameter that asks for device 1. */
 enum { PAIRING_INFORMATION = 0xB5, FIRST_SERIAL = 0x30 };
 enum { RADIO_TYPES = 32 };
-enum { LONGEST_LISTING = 305 };
+enum { LONGEST_LISTING = 305, LONGEST_STORE = 295 };
 
 /* 01, refusals 1 to 6. */
 static uint8_t report_refusal(const uint8_t *bytes, size_t length)
@@ -420,6 +420,17 @@ static char *put_decimal(char *at, uint8_t number)
     return at;
 }
 
+static char *put_version(char *at, const struct plain_port *port)
+{
+    if (port->version_known) {
+        at = put_decimal(at, port->major);
+        *at++ = '.';
+        return put_decimal(at, port->minor);
+    }
+    *at++ = '-';
+    return at;
+}
+
 static char *put_line(char *at, int device, const struct plain_port *port)
 {
     at = put_decimal(at, (uint8_t)device);
@@ -428,13 +439,7 @@ static char *put_line(char *at, int device, const struct plain_port *port)
     *at++ = '\t';
     at = put_hex(at, 8, port->reports);
     at = put_text(at, port->up ? "\tup\t" : "\tdown\t");
-    if (port->version_known) {
-        at = put_decimal(at, port->major);
-        *at++ = '.';
-        at = put_decimal(at, port->minor);
-    } else {
-        *at++ = '-';
-    }
+    at = put_version(at, port);
     *at++ = '\t';
     if (port->battery_known) {
         at = put_decimal(at, port->level);
@@ -466,5 +471,169 @@ uint8_t plain_list(const struct plain_station *station, uint8_t *buffer, size_t 
         return BLOTTERFINCH_NO_ROOM;
     memcpy(buffer + offset, text, length);
     *written = length;
+    return BLOTTERFINCH_ACCEPTED;
+}
+
+static char *put_pad(char *at, int device, const struct plain_port *port)
+{
+    *at++ = (char)('0' + device);
+    *at++ = '\t';
+    at = put_hex(at, 4, port->wpid);
+    *at++ = '\t';
+    if (port->serial_known)
+        at = put_hex(at, 8, port->serial);
+    else
+        *at++ = '-';
+    *at++ = '\t';
+    at = put_hex(at, 8, port->reports);
+    *at++ = '\t';
+    at = put_version(at, port);
+    for (int i = 0; i < PLAIN_FEATURES; i++) {
+        *at++ = '\t';
+        at = put_decimal(at, port->features[i]);
+    }
+    *at++ = '\n';
+    return at;
+}
+
+uint8_t plain_store(const struct plain_station *station, uint8_t *buffer, size_t buffer_length,
+                    size_t offset, size_t *written)
+{
+    char text[LONGEST_STORE];
+    char *at = put_text(text, "pads\t1\n");
+    size_t length;
+
+    for (int i = 0; i < PLAIN_DEVICES; i++)
+        if (station->ports[i].paired)
+            at = put_pad(at, i + 1, &station->ports[i]);
+    length = (size_t)(at - text);
+    if (!fits(length, buffer_length, offset))
+        return BLOTTERFINCH_NO_ROOM;
+    memcpy(buffer + offset, text, length);
+    *written = length;
+    return BLOTTERFINCH_ACCEPTED;
+}
+
+/* What is left of a text that is read once, from its front to its end. */
+struct text {
+    const uint8_t *at, *end;
+};
+
+static bool is_digit(uint8_t byte)
+{
+    return byte >= '0' && byte <= '9';
+}
+
+static bool read_byte(struct text *text, uint8_t byte)
+{
+    if (text->at == text->end || *text->at != byte)
+        return false;
+    text->at++;
+    return true;
+}
+
+static bool read_hex(struct text *text, int digits, uint32_t *number)
+{
+    *number = 0;
+    for (int i = 0; i < digits; i++) {
+        uint8_t byte = text->at == text->end ? 0 : *text->at++;
+
+        if (is_digit(byte))
+            *number = *number << 4 | (uint32_t)(byte - '0');
+        else if (byte >= 'A' && byte <= 'F')
+            *number = *number << 4 | (uint32_t)(byte - 'A' + 10);
+        else
+            return false;
+    }
+    return true;
+}
+
+/* No number has more digits than it needs: after a 0 none is read. */
+static bool read_decimal(struct text *text, unsigned most, uint8_t *number)
+{
+    unsigned sum = 0;
+    const uint8_t *start = text->at;
+
+    while (text->at != text->end && is_digit(*text->at)) {
+        if (text->at != start && sum == 0)
+            return false;
+        sum = 10 * sum + (unsigned)(*text->at++ - '0');
+        if (sum > most)
+            return false;
+    }
+    *number = (uint8_t)sum;
+    return text->at != start;
+}
+
+static bool read_version(struct text *text, struct plain_port *port)
+{
+    if (read_byte(text, '-'))
+        return true;
+    port->version_known = true;
+    return read_decimal(text, 255, &port->major) && read_byte(text, '.') && read_decimal(text, 255, &port->minor);
+}
+
+/* A line of a device above the last one, which it becomes. */
+static bool read_pad(struct text *text, struct plain_station *station, uint8_t *last)
+{
+    struct plain_port *port;
+    uint32_t wpid;
+    uint8_t device;
+
+    if (!read_decimal(text, PLAIN_DEVICES, &device) || device <= *last || !read_byte(text, '\t'))
+        return false;
+    *last = device;
+    port = &station->ports[device - 1];
+    port->paired = true;
+    if (!read_hex(text, 4, &wpid) || !read_byte(text, '\t'))
+        return false;
+    port->wpid = (uint16_t)wpid;
+    port->serial_known = !read_byte(text, '-');
+    if (port->serial_known && !read_hex(text, 8, &port->serial))
+        return false;
+    if (!read_byte(text, '\t') || !read_hex(text, 8, &port->reports) || !read_byte(text, '\t') ||
+        !read_version(text, port))
+        return false;
+    for (int i = 0; i < PLAIN_FEATURES; i++)
+        if (!read_byte(text, '\t') || !read_decimal(text, MAX_INDEX, &port->features[i]))
+            return false;
+    return read_byte(text, '\n');
+}
+
+/* The first line: the edition may have any number of digits. */
+static uint8_t read_edition(struct text *text)
+{
+    const uint8_t *number;
+    size_t digits;
+
+    for (const char *name = "pads\t"; *name != 0; name++)
+        if (!read_byte(text, (uint8_t)*name))
+            return PLAIN_BROKEN_LINE;
+    number = text->at;
+    while (text->at != text->end && is_digit(*text->at))
+        text->at++;
+    digits = (size_t)(text->at - number);
+    if (digits == 0 || (digits > 1 && *number == '0') || !read_byte(text, '\n'))
+        return PLAIN_BROKEN_LINE;
+    return digits == 1 && *number == '1' ? BLOTTERFINCH_ACCEPTED : PLAIN_OTHER_EDITION;
+}
+
+uint8_t plain_restore(struct plain_station *station, const uint8_t *text, size_t length, uint8_t *line)
+{
+    struct plain_station next;
+    struct text left = {text, text + length};
+    uint8_t last = 0;
+    uint8_t refusal = read_edition(&left);
+
+    *line = 1;
+    if (refusal != BLOTTERFINCH_ACCEPTED)
+        return refusal;
+    plain_fresh(&next);
+    while (left.at != left.end) {
+        ++*line;
+        if (!read_pad(&left, &next, &last))
+            return PLAIN_BROKEN_LINE;
+    }
+    *station = next;
     return BLOTTERFINCH_ACCEPTED;
 }

@@ -15,7 +15,9 @@ enum {
     PLAIN_NOT_DECLARED = 8,
     PLAIN_ALREADY_WAITING = 11,
     PLAIN_PLACES_FULL = 12,
-    PLAIN_NOT_WAITING = 13
+    PLAIN_NOT_WAITING = 13,
+    PLAIN_OTHER_EDITION = 15,
+    PLAIN_BROKEN_LINE = 16
 };
 
 /* One pending request. The place is empty where no ticks are left. */
@@ -89,5 +91,12 @@ void plain_tick(struct plain_station *station, uint8_t ended[PLAIN_PORTS]);
 /* Gives the refusal, or 0 and the number of bytes written. */
 uint8_t plain_list(const struct plain_station *station, uint8_t *buffer, size_t buffer_length,
                    size_t offset, size_t *written);
+
+/* Gives the refusal, or 0 and the number of bytes written. */
+uint8_t plain_store(const struct plain_station *station, uint8_t *buffer, size_t buffer_length,
+                    size_t offset, size_t *written);
+
+/* Gives the refusal, or 0; of PLAIN_BROKEN_LINE the number of the line, too. */
+uint8_t plain_restore(struct plain_station *station, const uint8_t *text, size_t length, uint8_t *line);
 
 #endif

@@ -11,7 +11,7 @@
 
 #include "measure.h"
 
-enum { MAX_CALLS = 700, BUFFER = 400 };
+enum { MAX_CALLS = 700, BUFFER = 400, MAX_TEXT = 400 };
 
 struct sequence {
     size_t calls;
@@ -26,18 +26,22 @@ struct outcome {
 /* Each sequence is made by a function of its own on either side, so that callgrind has a line for each. */
 #define SCRIPTS(X) \
     X(setup) X(mouse) X(refused) X(event) X(request) X(reply) X(error) X(cancel) X(tick) X(list) X(serial) \
-    X(ping) X(late)
+    X(ping) X(late) X(full) X(store) X(restore)
 
 #define INDEX(name) sequence_##name,
 enum { SCRIPTS(INDEX) SEQUENCE_COUNT };
 
 static struct sequence sequences[SEQUENCE_COUNT];
 
+/* The store that `restore` reads. */
+static uint8_t text[MAX_TEXT];
+static size_t text_length;
+
 #define MAKE(side, measure, name) \
     __attribute__((noinline)) static void side##_makes_##name(struct outcome *outcome) \
     { \
         outcome->sum = measure(sequences[sequence_##name].bytes, sequences[sequence_##name].calls * CALL_SIZE, \
-                               outcome->buffer, BUFFER); \
+                               text, text_length, outcome->buffer, BUFFER); \
     }
 #define MAKE_LIBRARY(name) MAKE(library, blotterfinch_measure, name)
 #define MAKE_PLAIN(name) MAKE(plain, plain_measure, name)
@@ -69,6 +73,8 @@ static const struct {
     {sequence_serial, sequence_setup, 0, "serial, asked and told"},
     {sequence_ping, sequence_setup, 0, "ping and reply"},
     {sequence_late, sequence_setup, 0, "take: late ping reply"},
+    {sequence_store, sequence_full, 0, "write six pads' store"},
+    {sequence_restore, sequence_full, 0, "read six pads' store"},
 };
 enum { LINES = sizeof lines / sizeof lines[0] };
 
@@ -140,13 +146,52 @@ static void set_up(struct sequence *sequence)
     }
 }
 
+/* And their serials. */
+static void add_serials(struct sequence *sequence)
+{
+    for (int i = 0; i < 6; i++) {
+        uint8_t parameter = (uint8_t)(0x30 + i);
+
+        add_request(sequence, 0xFF, 0x83, 0xB5, parameter, 0x00);
+        TAKE_REPORT(sequence, 0x11, 0xFF, 0x83, 0xB5, parameter, 0xFB, 0x84, 0x1B, (uint8_t)(0x86 + i));
+    }
+}
+
+/* Keeps what the last call of a sequence, a store, writes: its length is what it adds to the sum. */
+static void keep_store(const struct sequence *sequence)
+{
+    static uint8_t buffer[BUFFER];
+    size_t length = sequence->calls * CALL_SIZE;
+    uint64_t before = plain_measure(sequence->bytes, length - CALL_SIZE, text, text_length, buffer, BUFFER);
+    uint64_t sum = plain_measure(sequence->bytes, length, text, text_length, buffer, BUFFER);
+
+    text_length = (size_t)(sum - before);
+    memcpy(text, buffer, text_length);
+}
+
+/* Keeps the store of the six devices that every sequence sets up, with their serials. */
+static void write_text(void)
+{
+    static struct sequence sequence;
+
+    sequence.calls = 0;
+    set_up(&sequence);
+    add_serials(&sequence);
+    add(&sequence, STORE);
+    keep_store(&sequence);
+}
+
 enum { TURNS = 280, WAITING = 7 * 4 };
 
 static void write_sequences(void)
 {
     for (int i = 0; i < SEQUENCE_COUNT; i++)
         set_up(&sequences[i]);
+    for (int i = sequence_full; i <= sequence_restore; i++)
+        add_serials(&sequences[i]);
     for (int i = 0; i < TURNS; i++) {
+        add(&sequences[sequence_store], STORE);
+        add(&sequences[sequence_restore], RESTORE);
         TAKE_REPORT(&sequences[sequence_mouse], 0x20, 0x02, 0x02, 0x01, 0x00, 0xFF, 0x1F, 0x00, 0x01, 0xFF);
         TAKE_REPORT(&sequences[sequence_refused], 0x20, 0x02, 0x04, 0x01);
         TAKE_REPORT(&sequences[sequence_event], 0x11, 0x02, 0x07, 0x00, 0x32, 0x28, 0x01);
@@ -310,6 +355,8 @@ static void add_random_ping(struct sequence *sequence)
 
 static void add_random_call(struct sequence *sequence)
 {
+    if (rand() % 40 == 0)
+        add(sequence, rand() % 4 == 0 ? RESTORE : STORE);
     switch (rand() % 10) {
     case 0: add_random_serial(sequence); break;
     case 1: add_random_ping(sequence); break;
@@ -317,6 +364,47 @@ static void add_random_call(struct sequence *sequence)
     }
 }
 
+/* Often at the edition or behind the text. */
+static size_t place_in_text(void)
+{
+    switch (rand() % 8) {
+    case 0: return text_length;
+    case 1: return text_length < 5 ? text_length : 5;
+    default: return (size_t)rand() % (text_length + 1);
+    }
+}
+
+/* Changes a text in one place: it is torn, or a byte is put in, left out or another. Half of them stay. */
+static void spoil_text(void)
+{
+    static const uint8_t often[] = "\t\n\r 0123456789ABCDEFabcf.-pds";
+    size_t at = place_in_text();
+    uint8_t byte = rand() % 16 == 0 ? (uint8_t)rand() : often[(size_t)rand() % (sizeof often - 1)];
+
+    switch (rand() % 8) {
+    case 0: text_length = at; break;
+    case 1:
+        if (text_length == MAX_TEXT)
+            break;
+        memmove(text + at + 1, text + at, text_length - at);
+        text[at] = byte;
+        text_length++;
+        break;
+    case 2:
+        if (at == text_length)
+            break;
+        text_length--;
+        memmove(text + at, text + at + 1, text_length - at);
+        break;
+    case 3:
+        if (at < text_length)
+            text[at] = byte;
+        break;
+    default: break;
+    }
+}
+
+/* What one random sequence stored is the text that the next one reads, or the store of six devices is, often spoilt. */
 static void compare(void)
 {
     enum { RANDOM_SCRIPTS = 20000 };
@@ -328,10 +416,16 @@ static void compare(void)
         sequence.calls = 0;
         while (sequence.calls < 200)
             add_random_call(&sequence);
-        add(&sequence, LIST);
-        library.sum = blotterfinch_measure(sequence.bytes, sequence.calls * CALL_SIZE, library.buffer, BUFFER);
-        plain.sum = plain_measure(sequence.bytes, sequence.calls * CALL_SIZE, plain.buffer, BUFFER);
+        add(&sequence, i % 2 == 0 ? LIST : STORE);
+        library.sum = blotterfinch_measure(sequence.bytes, sequence.calls * CALL_SIZE, text, text_length,
+                                           library.buffer, BUFFER);
+        plain.sum = plain_measure(sequence.bytes, sequence.calls * CALL_SIZE, text, text_length, plain.buffer, BUFFER);
         expect_same(&library, &plain, "random sequence");
+        if (rand() % 8 == 0)
+            write_text();
+        else if (i % 2 == 1)
+            keep_store(&sequence);
+        spoil_text();
     }
     printf("%d random sequences: the library and plain C give the same\n", RANDOM_SCRIPTS);
 }
@@ -339,6 +433,7 @@ static void compare(void)
 int main(int argc, char **argv)
 {
     write_sequences();
+    write_text();
     if (argc == 1)
         count();
     else if (strcmp(argv[1], "time") == 0)

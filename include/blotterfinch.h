@@ -72,8 +72,8 @@ enum blotterfinch_sub_id {
 /* The bytes that blotterfinch_mouse takes. */
 enum { BLOTTERFINCH_MOUSE_PAYLOAD = 7 };
 
-/* Why a call was refused. The numbers that are left out, 7, 8 and 11 to 13, need a station, which this
- * library does not have. Where several apply, the one that comes first in the function's comment is given. */
+/* Why a call was refused. The numbers that are left out, 7, 8, 11 to 13, 15 and 16, need a station, which
+ * this library does not have. Where several apply, the one that comes first in the function's comment is given. */
 enum blotterfinch_refusal {
     BLOTTERFINCH_ACCEPTED = 0,
     /* The report has no byte. */
@@ -143,8 +143,8 @@ static inline size_t blotterfinch_report_length(uint8_t id)
     }
 }
 
-/* A refusal in words, in English and in lower case; for any other number, 7, 8 and 11 to 13 among them,
- * that there is no such refusal.
+/* A refusal in words, in English and in lower case; for any other number, 7, 8, 11 to 13, 15 and 16 among
+ * them, that there is no such refusal.
  * The text is a constant: it is not to be freed. */
 static inline const char *blotterfinch_refusal_text(uint8_t refusal)
 {

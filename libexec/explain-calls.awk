@@ -3,7 +3,7 @@
 #   call NUMBER LINE COMMENTS    a line of the script, with the comment lines before it
 #   more                         a further line of the same answer
 #   mouse                        an added line: the movement of the report before it
-#   records NUMBER               an added `dump` after a report: a port's line each
+#   records NUMBER               an added `dump` after a report or a store that is read: a port's line each
 #   end COMMENTS                 the added `dump` at the end: a port's line each
 # Fields are parted by the byte 1F; so are comment lines, which come last.
 
@@ -21,6 +21,7 @@ BEGIN {
     comments = ""
     if ($0 ~ /^ *dump *\r?$/) for (i = 1; i < ports; i++) record = record "\n" "more"
     if ($1 == "take") add()
+    else if ($1 == "restore") dump()
     print record >lines
     fflush(lines)
     print $0 added >calls
@@ -47,8 +48,10 @@ function add(    i) {
         record = record "\n" "mouse"
         added = "\n" "mouse"
         for (i = 5; i <= 11 && i <= NF; i++) added = added " " shown($i)
-    } else if ($2 ~ /^1[01]$/ || $4 ~ /^4[0-2]$/) {
-        for (i = 1; i <= ports; i++) record = record "\n" "records" part NR
-        added = "\n" "dump"
-    }
+    } else if ($2 ~ /^1[01]$/ || $4 ~ /^4[0-2]$/) dump()
+}
+
+function dump(    i) {
+    for (i = 1; i <= ports; i++) record = record "\n" "records" part NR
+    added = "\n" "dump"
 }

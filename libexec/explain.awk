@@ -64,6 +64,7 @@ function answered(answer) {
     else if (first == "wrote") wrote(answer)
     else if (first == "ended") ticked(answer)
     else if (first == "moved") explain("moved: " movement(answer))
+    else if (first == "restored") restored()
     else if (first == "no call") explain("docs/SCRIPTS.md has the calls; nothing happened")
     else if (first == "cancelled") { ways["cancelled"]++; explain(who(word[2]) " is no longer asked: " asking(word[2], word[3], word[4], asked[key(word[2], word[3], word[4])])) }
     else if (first == "report") explain(report_text(answer))
@@ -80,6 +81,8 @@ function refused(answer,    n) {
     refusals[n]++
     explain("refused: " (n in refusal ? refusal[n] : "a number that docs/SCRIPTS.md has"))
     if (n == 7) unpaired_devices[decimal(word[3])] = 1
+    if (n == 15) explain("its first line: " stored(1))
+    if (n == 16) explain("line " value(answer, "line") ": " stored(value(answer, "line")))
 }
 
 function wrote(answer,    k) {
@@ -92,7 +95,7 @@ function wrote(answer,    k) {
     else if (word[1] == "switch") explain("to the receiver: DJ reports of " devices_of(word[2]) "; " keep_alive(word[3]))
     else if (word[1] == "get-paired") explain("to the receiver: which devices are paired?")
     else if (word[1] == "led") explain("to " who(word[2]) ": keyboard LEDs " word[3])
-    else if (word[1] == "list") listing(answer)
+    else if (word[1] == "list" || word[1] == "store") listing(answer)
 }
 
 function ticked(answer,    n, i, text) {
@@ -106,13 +109,42 @@ function ticked(answer,    n, i, text) {
     explain(n ? count(n, "request") " ended without a reply: " text : "time passed; no request ended")
 }
 
-# The listing as text: the bytes from PLACE on.
+# The listing or the store as text: the bytes from PLACE on.
 function listing(answer,    i, n, text) {
     n = split(answer, sides, " ")
     for (i = 3 + word[2]; i < 3 + word[2] + sides[2] && i <= n; i++) text = text sprintf("%c", decimal(sides[i]))
     sub(/\n$/, "", text)
     gsub(/\n/, "\n    | ", text)
     print "    | " text
+}
+
+# ---- a store that is read
+
+# What waited is gone, and no answer counts it: it is what was accepted and has not ended.
+function restored(    i, n, lost, text) {
+    for (i = 2; i <= words; i++) if (toupper(word[i]) == "0A" && i < words) text = text (n++ ? ", " : " ") decimal(word[i + 1]) - 48
+    lost = ways["accepted"]
+    for (i = 1; i <= way_count; i++) lost -= ways[way_order[i]]
+    ways["lost"] += lost
+    explain("the station is the store's: " (n ? "device" : "no device") (n > 1 ? "s" : "") text "; all else is as fresh; " (lost ? count(lost, "waiting request") " lost" : "no request waited"))
+}
+
+# A line of the store in the call, as far as a reader needs it to find its fault.
+function stored(number,    i, line, text) {
+    line = 1
+    for (i = 2; i <= words && line < number; i++) if (toupper(word[i]) == "0A") line++
+    for (; i <= words && toupper(word[i]) != "0A" && length(text) < 80; i++) text = text sign(toupper(word[i]))
+    if (text == "" && i > words) return "there is none"
+    if (i > words) return text ", without a newline"
+    return (text == "" ? "it is empty" : text) (toupper(word[i]) == "0A" ? "" : " ..")
+}
+
+function sign(hh,    n) {
+    n = decimal(hh)
+    if (hh == "09") return "\\t"
+    if (hh == "0D") return "\\r"
+    if (hh == "5C") return "\\\\"
+    return n >= 32 && n < 127 ? sprintf("%c", n) : "\\x" hh
 }
 
 # ---- what a report's answer means
@@ -428,11 +460,13 @@ function name_refusals() {
     refusal[12] = "all four places of the port are taken"
     refusal[13] = "no such request waits"
     refusal[14] = "a reserved device bit"
+    refusal[15] = "a store of another edition: keep the file, and read it with the software that wrote it"
+    refusal[16] = "a line of the store breaks the rules: keep a copy of the file, and ask the devices anew"
 }
 
 function name_kinds() {
-    kind_count = split("wrote,reply,error,stray,plain,event,radio,paired,unpaired,empty-list,link,other,cancelled,ended,report,moved,dump,refused,no call", kind_order, ",")
-    way_count = split("replied,failed,expired,cancelled,dropped,still waiting", way_order, ",")
+    kind_count = split("wrote,reply,error,stray,plain,event,radio,paired,unpaired,empty-list,link,other,cancelled,ended,restored,report,moved,dump,refused,no call", kind_order, ",")
+    way_count = split("replied,failed,expired,cancelled,dropped,lost,still waiting", way_order, ",")
     shown_count = split("paired,wpid,reports,version,features,battery,serial", shown, ",")
     fresh["paired"] = "0"
     fresh["wpid"] = "0000"

@@ -1,3 +1,4 @@
 pub mod Restoring
 pub mod RestoreContracts
 pub mod RestoringLaws
+pub mod RestoredLaws

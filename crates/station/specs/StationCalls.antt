@@ -1,4 +1,4 @@
--- Document 01, "Writing": request, cancel and tick on the station.
+-- Document 01, "Writing": request, cancel and tick on the station; document 02, Ask 3: reading a store.
 use Prim.Native.Nat.{ℕ}
 use mathlib.Core.Bool.{cond, not}
 use mathlib.Core.List.{List, map}
@@ -10,6 +10,7 @@ use Rattle.port.specs.Records.{withPlaces}
 use Rattle.port.specs.Ticks.{tickRule}
 use Rattle.port.specs.Waiting as waiting
 use Rattle.request.specs.Requesting.{RequestAt, requestAt}
+use Rattle.restore.specs.Restoring.{RestoreAnswer, Restoring, restorePorts}
 use Rattle.station.specs.declared.Station.{Station}
 use Rattle.station.specs.Stations.{positionOf, portAt, withPort}
 
@@ -58,3 +59,15 @@ endedOn p = tickRule (p .places) .ended
 
 unfoldable pub tickAll : Station → TickOutcome
 tickAll st = record { ended = map endedOn (st .ports); station = record { ports = map tickedPort (st .ports) } }
+
+-- what reading a store gives: its answer, and the next station
+pub record RestoreOutcome : Type 0 where
+  pub answer : RestoreAnswer
+  pub station : Station
+
+abbrev pub restoredTo : Restoring → RestoreOutcome
+restoredTo r = record { answer = r .answer; station = record { ports = r .ports } }
+
+-- 15, 16
+unfoldable pub restoreRule : Station → List ℕ → RestoreOutcome
+restoreRule st text = restoredTo (restorePorts (st .ports) text)

@@ -6,14 +6,16 @@ use Rattle.frame.specs.declared.Written.{Written}
 use Rattle.frame.specs.Writing.{switchRule, getPairedRule, ledRule}
 use Rattle.frame.specs.FrameContracts.{writtenOutcome}
 use Rattle.listing.specs.Listing.{listingRule}
+use Rattle.store.specs.Stores.{storeRule}
 use Rattle.station.specs.declared.Station.{Station}
 use Rattle.station.specs.declared.TakeResult.{TakeResult}
 use Rattle.station.specs.declared.RequestResult.{RequestResult}
 use Rattle.station.specs.declared.CancelResult.{CancelResult}
 use Rattle.station.specs.declared.TickResult.{TickResult}
+use Rattle.station.specs.declared.RestoreResult.{RestoreResult}
 use Rattle.station.specs.StationTaking.{takeRule}
-use Rattle.station.specs.StationCalls.{requestRule, cancelRule, tickAll}
-use Rattle.station.specs.StationContracts.{takeOutcome, requestOutcome, cancelOutcome, tickOutcome}
+use Rattle.station.specs.StationCalls.{requestRule, cancelRule, tickAll, restoreRule}
+use Rattle.station.specs.StationContracts.{takeOutcome, requestOutcome, cancelOutcome, tickOutcome, restoreOutcome}
 
 abbrev pub TakePromise : Station → List ℕ → TakeResult → Type 0
 TakePromise st bytes r = takeOutcome r ≡ takeRule st bytes
@@ -39,3 +41,9 @@ LedPromise device leds offset lent r after = writtenOutcome r after ≡ ledRule 
 
 abbrev pub ListPromise : Station → ℕ → List ℕ → Written → List ℕ → Type 0
 ListPromise st offset lent r after = writtenOutcome r after ≡ listingRule (st .ports) offset lent
+
+abbrev pub StorePromise : Station → ℕ → List ℕ → Written → List ℕ → Type 0
+StorePromise st offset lent r after = writtenOutcome r after ≡ storeRule (st .ports) offset lent
+
+abbrev pub RestorePromise : Station → List ℕ → RestoreResult → Type 0
+RestorePromise st text r = restoreOutcome r ≡ restoreRule st text

@@ -6,7 +6,7 @@ ghost use Rattle.station.specs.Stations.{freshStation, positionOf, portC
 ghost use Rattle.station.specs.StationTaking.{withDrops};
 ghost use Rattle.station.specs.StationCalls.{tickAll};
 ghost use Rattle.station.specs.StationContracts.{tickOutcome};
-ghost use Rattle.station.specs.StationPromises.{TakePromise, RequestPromise, CancelPromise, TickPromise, SwitchPromise, GetPairedPromise, LedPromise, ListPromise};
+ghost use Rattle.station.specs.StationPromises.{TakePromise, RequestPromise, CancelPromise, TickPromise, SwitchPromise, GetPairedPromise, LedPromise, ListPromise, StorePromise, RestorePromise};
 use frame::Written;
 use port::Port;
 use port::answer::Notice;
@@ -17,6 +17,7 @@ use report::Device;
 use report::FeatureIndex;
 use report::Reading;
 use report::Refusal;
+use restore::Restored;
 use serial::Given;
 
 // Devices 1 to 6 at positions 0 to 5, and the receiver at the last.
@@ -45,6 +46,12 @@ pub struct CancelResult {
 // What a tick gives: the number of requests that it ended on each port, and the next station.
 pub struct TickResult {
     pub ended: [u8; port::PORTS],
+    pub station: Station,
+}
+
+// What reading a store gives: its answer, and the next station.
+pub struct RestoreResult {
+    pub answer: Restored,
     pub station: Station,
 }
 
@@ -263,5 +270,27 @@ impl Station {
     {
         let ports = self.ports;
         listing::write_listing(ports, buffer, offset)
+    }
+
+    // Writes the store of the paired devices: refusal 10. The station stays as it is.
+    pub fn store(self, buffer: &mut [u8], offset: usize) -> Written
+        ensures outcome { λ r. ⌜ StorePromise self offset (now (buffer .entry)) r (now (buffer .exit)) ⌝ }
+    {
+        let ports = self.ports;
+        store::write_store(ports, buffer, offset)
+    }
+
+    // Reads a store: the next station is the one that it keeps, or, refused with 15, or with 16 and the number of a line, this one.
+    pub fn restore(self, text: &[u8]) -> RestoreResult
+        ensures outcome { λ r. ⌜ RestorePromise self (now (text .entry)) r ⌝ }
+    {
+        let ports = self.ports;
+        let read = restore::restore(ports, text);
+        let answer = read.answer;
+        let next = read.ports;
+        RestoreResult {
+            answer,
+            station: Station { ports: next },
+        }
     }
 }

@@ -3,11 +3,12 @@
 
 use std::io::{self, BufRead, Write};
 
-/// Every kind of answer that is counted, after the refusal numbers 1 to 14.
-pub const KINDS: [&str; 59] = [
+/// Every kind of answer that is counted, after the refusal numbers 1 to 16.
+pub const KINDS: [&str; 66] = [
     "refused without a buffer",
     "refused with a buffer",
     "refused with a buffer of no byte",
+    "refused with a line",
     "wrote a short request frame",
     "wrote a long request frame",
     "wrote switch",
@@ -16,6 +17,10 @@ pub const KINDS: [&str; 59] = [
     "wrote the listing's header alone",
     "wrote the listing of 1 device",
     "wrote the listing of several devices",
+    "wrote the store's first line alone",
+    "wrote the store of 1 device",
+    "wrote the store of several devices",
+    "restored",
     "cancelled",
     "ended none",
     "ended some on a device",
@@ -45,6 +50,8 @@ pub const KINDS: [&str; 59] = [
     "paired, same WPID",
     "paired, other WPID, none dropped",
     "paired, other WPID, some dropped",
+    "paired, not told before, none dropped",
+    "paired, not told before, some dropped",
     "paired, more to come",
     "paired, no more to come",
     "empty list",
@@ -66,15 +73,24 @@ pub const KINDS: [&str; 59] = [
     "no call",
 ];
 
-pub const REFUSALS: usize = 14;
+pub const REFUSALS: usize = 16;
 
 /// The counts, and what they need to know of the answers before.
 pub struct Tally {
     refusals: [u64; REFUSALS],
     kinds: [u64; KINDS.len()],
     unknown: u64,
-    /// The WPID of each device that the answers say is paired.
-    paired: [Option<u16>; 6],
+    /// What the answers say of each device.
+    paired: [Told; 6],
+}
+
+/// Whether a device is paired, and with which WPID.
+#[derive(Clone, Copy, Debug, PartialEq, Eq)]
+enum Told {
+    Unpaired,
+    Paired(u16),
+    /// A store was read, and its answer does not say what was in it.
+    Nothing,
 }
 
 impl Default for Tally {
@@ -83,7 +99,7 @@ impl Default for Tally {
             refusals: [0; REFUSALS],
             kinds: [0; KINDS.len()],
             unknown: 0,
-            paired: [None; 6],
+            paired: [Told::Unpaired; 6],
         }
     }
 }
@@ -143,6 +159,7 @@ impl Tally {
             "other" => self.kind("other of a device"),
             "report" => self.report(rest),
             "moved" => self.kind("moved"),
+            "restored" => self.restored(rest),
             "line" if rest.ends_with(" is no call") => self.kind("no call"),
             _ if name.starts_with("port=") => self.dump(line),
             _ => None,
@@ -157,17 +174,46 @@ impl Tally {
 
     fn refused(&mut self, rest: &str) -> Option<()> {
         let (number, kind) = match rest.split_once(':') {
+            None if rest.contains(' ') => return self.refused_line(rest),
             None => (rest, "refused without a buffer"),
             Some((number, "")) => (number, "refused with a buffer of no byte"),
             Some((number, _)) => (number, "refused with a buffer"),
         };
         let number: usize = number.parse().ok()?;
+        let is_line_due = number == 16;
+        let is_read = number == 15;
+        if is_line_due || (is_read && rest.contains(':')) {
+            return None;
+        }
         *self.refusals.get_mut(number.checked_sub(1)?)? += 1;
         self.kind(kind)
     }
 
+    /// Only 16 has the number of a line.
+    fn refused_line(&mut self, rest: &str) -> Option<()> {
+        let line = rest.strip_prefix("16 line=")?;
+        if !matches!(line, "1" | "2" | "3" | "4" | "5" | "6" | "7" | "8") {
+            return None;
+        }
+        self.refusals[15] += 1;
+        self.kind("refused with a line")
+    }
+
+    fn restored(&mut self, rest: &str) -> Option<()> {
+        self.paired = [Told::Nothing; 6];
+        rest.is_empty().then(|| self.kind("restored"))?
+    }
+
     fn wrote(&mut self, rest: &str) -> Option<()> {
         let (length, buffer) = rest.split_once(':')?;
+        if written(buffer).take(4).eq(["70", "61", "64", "73"]) {
+            return self.kind(match newlines(buffer) {
+                0 => return None,
+                1 => "wrote the store's first line alone",
+                2 => "wrote the store of 1 device",
+                _ => "wrote the store of several devices",
+            });
+        }
         match length {
             "7" => self.kind("wrote a short request frame"),
             "20" => self.kind("wrote a long request frame"),
@@ -226,7 +272,7 @@ impl Tally {
     }
 
     fn unpaired(&mut self, rest: &str) -> Option<()> {
-        *self.device(rest)? = None;
+        *self.device(rest)? = Told::Unpaired;
         let drops = drops(rest)?;
         self.kind(&format!("unpaired, {drops} dropped"))
     }
@@ -234,11 +280,12 @@ impl Tally {
     fn paired(&mut self, rest: &str) -> Option<()> {
         let wpid = u16::from_str_radix(field(rest, "wpid")?, 16).ok()?;
         let drops = drops(rest)?;
-        let before = self.device(rest)?.replace(wpid);
+        let before = std::mem::replace(self.device(rest)?, Told::Paired(wpid));
         match before {
-            None => self.kind(&format!("paired, first WPID, {drops} dropped"))?,
-            Some(same) if same == wpid => self.kind("paired, same WPID")?,
-            Some(_) => self.kind(&format!("paired, other WPID, {drops} dropped"))?,
+            Told::Unpaired => self.kind(&format!("paired, first WPID, {drops} dropped"))?,
+            Told::Paired(same) if same == wpid => self.kind("paired, same WPID")?,
+            Told::Paired(_) => self.kind(&format!("paired, other WPID, {drops} dropped"))?,
+            Told::Nothing => self.kind(&format!("paired, not told before, {drops} dropped"))?,
         }
         self.kind(match field(rest, "more")? {
             "1" => "paired, more to come",
@@ -247,7 +294,7 @@ impl Tally {
         })
     }
 
-    fn device(&mut self, rest: &str) -> Option<&mut Option<u16>> {
+    fn device(&mut self, rest: &str) -> Option<&mut Told> {
         let port: usize = field(rest, "port")?.parse().ok()?;
         self.paired.get_mut(port.checked_sub(1)?)
     }
@@ -269,6 +316,13 @@ impl Tally {
             4 => "dump of a port, four waiting",
             _ => "dump of a port, some waiting",
         })?;
+        if let Some(told) = self.device(line) {
+            let wpid = u16::from_str_radix(field(line, "wpid")?, 16).ok()?;
+            *told = match field(line, "paired")? {
+                "1" => Told::Paired(wpid),
+                _ => Told::Unpaired,
+            };
+        }
         if field(line, "version")? != "-" {
             self.kind("dump of a known version")?;
         }
@@ -299,13 +353,16 @@ fn drops(rest: &str) -> Option<&'static str> {
     }
 }
 
-/// Which writer wrote the DJ frame, which begins at the first byte that isn't
-/// as lent.
-fn dj_writer(buffer: &str) -> Option<&'static str> {
-    let mut frame = buffer
+/// The buffer from the first byte on that isn't as lent.
+fn written(buffer: &str) -> impl Iterator<Item = &str> {
+    buffer
         .split(' ')
-        .skip_while(|&byte| byte.is_empty() || byte == "EE");
-    match frame.nth(2)? {
+        .skip_while(|&byte| byte.is_empty() || byte == "EE")
+}
+
+/// Which writer wrote the DJ frame.
+fn dj_writer(buffer: &str) -> Option<&'static str> {
+    match written(buffer).nth(2)? {
         "80" => Some("wrote switch"),
         "81" => Some("wrote get-paired"),
         "0E" => Some("wrote led"),

@@ -5,13 +5,33 @@ use std::io::{self, Read, Write};
 
 use crate::script::LENT;
 use crate::station::{Frame, Key, Link, Notice, Outcome, Refusal, Station, Taken};
+use crate::store::Unread;
 
 pub const HEADER: usize = 12;
 pub const ROW: usize = 10;
 /// The refusal of blocks that are no calls.
 pub const MALFORMED: u8 = 31;
 /// The number of kinds of row.
-pub const KINDS: usize = 17;
+pub const KINDS: usize = 19;
+/// The kinds of row of a store that is read.
+pub const UNREAD: u8 = 17;
+pub const RESTORED: u8 = 18;
+
+/// The number by which a block says its call.
+pub mod opcode {
+    pub const TAKE: u8 = 0;
+    pub const REQUEST: u8 = 1;
+    pub const CANCEL: u8 = 2;
+    pub const TICK: u8 = 3;
+    pub const SWITCH: u8 = 4;
+    pub const GET_PAIRED: u8 = 5;
+    pub const LED: u8 = 6;
+    pub const LIST: u8 = 7;
+    pub const STORE: u8 = 8;
+    pub const RESTORE: u8 = 9;
+    /// Above it is none.
+    pub const LAST: u8 = 9;
+}
 
 pub type Row = [u8; ROW];
 
@@ -52,13 +72,13 @@ impl Block {
             lent: number(10),
             data: data.to_vec(),
         };
-        (block.opcode <= 7).then_some((block, rest))
+        (block.opcode <= opcode::LAST).then_some((block, rest))
     }
 
     /// How much of the arena the call is lent.
     pub fn room(&self) -> usize {
         match self.opcode {
-            0 | 2 | 3 => 0,
+            opcode::TAKE | opcode::CANCEL | opcode::TICK | opcode::RESTORE => 0,
             _ => usize::from(self.lent),
         }
     }
@@ -68,8 +88,8 @@ impl Block {
         let key = Key { byte2: b, byte3: c };
         let offset = usize::from(self.offset);
         match self.opcode {
-            0 => take_row(station.take(&self.data)),
-            1 => {
+            opcode::TAKE => take_row(station.take(&self.data)),
+            opcode::REQUEST => {
                 let frame = Frame {
                     port: a,
                     key,
@@ -77,15 +97,17 @@ impl Block {
                 };
                 written_row(station.request(&frame, self.ticks, offset, lent))
             }
-            2 => match station.cancel(a, key) {
+            opcode::CANCEL => match station.cancel(a, key) {
                 Err(refusal) => row(14, &[refusal.number()]),
                 Ok(()) => row(15, &[]),
             },
-            3 => row(16, &station.tick()),
-            4 => written_row(station.switch(a, b, offset, lent)),
-            5 => written_row(station.get_paired(offset, lent)),
-            6 => written_row(station.led(a, b, offset, lent)),
-            _ => written_row(station.list(offset, lent)),
+            opcode::TICK => row(16, &station.tick()),
+            opcode::SWITCH => written_row(station.switch(a, b, offset, lent)),
+            opcode::GET_PAIRED => written_row(station.get_paired(offset, lent)),
+            opcode::LED => written_row(station.led(a, b, offset, lent)),
+            opcode::LIST => written_row(station.list(offset, lent)),
+            opcode::STORE => written_row(station.store(offset, lent)),
+            _ => restored_row(station.restore(&self.data)),
         }
     }
 }
@@ -116,6 +138,20 @@ fn written_row(written: Result<usize, Refusal>) -> Row {
     match written {
         Err(refusal) => row(12, &[refusal.number()]),
         Ok(length) => row(13, &(length as u16).to_le_bytes()),
+    }
+}
+
+/// The row of a store that is read; with 16 comes the number of the line.
+fn restored_row(restored: Result<(), Unread>) -> Row {
+    match restored {
+        Ok(()) => row(RESTORED, &[]),
+        Err(unread) => {
+            let line = match unread {
+                Unread::OtherEdition => 0,
+                Unread::BrokenLine(line) => line,
+            };
+            row(UNREAD, &[unread.refusal().number(), line])
+        }
     }
 }
 

@@ -10,3 +10,5 @@ pub mod random;
 pub mod script;
 pub mod serials;
 pub mod station;
+pub mod store;
+pub mod stores;

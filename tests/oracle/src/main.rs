@@ -1,6 +1,6 @@
 //! Replays scripts, makes random ones and counts the answers' kinds, the
-//! serials told and the pings answered; makes runs of encoded calls, random
-//! ones too.
+//! serials told, the pings answered and the stores written and read; makes
+//! runs of encoded calls, random ones too.
 
 use std::ffi::{OsStr, OsString};
 use std::fs::File;
@@ -11,7 +11,7 @@ use oracle::count::Tally;
 use oracle::encoded::run_all;
 use oracle::random::{write_runs, write_script};
 use oracle::script::{replay, Failure};
-use oracle::{pings, serials};
+use oracle::{pings, serials, stores};
 
 const USAGE: &str = "\
 usage: oracle replay [FILE]
@@ -19,6 +19,7 @@ usage: oracle replay [FILE]
        oracle count FILE
        oracle serials FILE
        oracle pings FILE
+       oracle stores FILE
        oracle encoded-random SEED COUNT
        oracle encoded FILE";
 
@@ -32,6 +33,7 @@ fn main() -> ExitCode {
         [name, file] if *name == "count" => count(file),
         [name, file] if *name == "serials" => count_serials(file),
         [name, file] if *name == "pings" => count_pings(file),
+        [name, file] if *name == "stores" => count_stores(file),
         [name, seed, count] if *name == "encoded-random" => random_runs(seed, count),
         [name, file] if *name == "encoded" => run_file(file),
         _ => Err(USAGE.to_owned()),
@@ -97,6 +99,11 @@ fn count_serials(file: &OsStr) -> Result<ExitCode, String> {
 
 fn count_pings(file: &OsStr) -> Result<ExitCode, String> {
     let tally = pings::Tally::read(open(file)?).map_err(|failure| unread(file, failure))?;
+    show(|output| tally.print(output), tally.is_complete())
+}
+
+fn count_stores(file: &OsStr) -> Result<ExitCode, String> {
+    let tally = stores::Tally::read(open(file)?).map_err(|failure| unread(file, failure))?;
     show(|output| tally.print(output), tally.is_complete())
 }
 

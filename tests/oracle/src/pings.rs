@@ -15,7 +15,7 @@ const BY_PORT: [(Sort, &str); 2] = [
 ];
 
 /// What is counted of all ports together: the calls of a sort that pass a test.
-const KINDS: [(Sort, &str, Test); 39] = [
+const KINDS: [(Sort, &str, Test); 41] = [
     (Sort::Answers, "answered: short ping, short reply", |seen| {
         seen.sizes() == (3, 3)
     }),
@@ -100,6 +100,14 @@ const KINDS: [(Sort, &str, Test); 39] = [
     (Sort::Differs, "differs: one's that was answered", |seen| {
         seen.is_late(End::Answered)
     }),
+    (Sort::Differs, "differs: one's from before a read", |seen| {
+        seen.is_late(End::Lost)
+    }),
+    (
+        Sort::FindsNone,
+        "no ping waits: before a read it did",
+        |seen| seen.is_late(End::Lost),
+    ),
     (Sort::FindsNone, "no ping waits: stray", |seen| {
         seen.outcome == Some(Outcome::Stray)
     }),
@@ -160,6 +168,8 @@ enum End {
     Expired,
     Cancelled,
     Dropped,
+    /// A store was read.
+    Lost,
 }
 
 /// A ping as it was asked.
@@ -407,6 +417,7 @@ fn end(ping: &Ping, call: &Call, answer: &Answer) -> End {
     match (call, outcome(answer)) {
         (Call::Tick, _) => End::Expired,
         (Call::Cancel { .. }, _) => End::Cancelled,
+        (Call::Restore(_), _) => End::Lost,
         (_, Some(Outcome::Reply { .. })) if its_own => End::Answered,
         (_, Some(Outcome::Error { .. })) => End::Failed,
         _ => End::Dropped,

@@ -7,11 +7,12 @@ mod plan;
 mod reports;
 mod rng;
 mod spelling;
+mod stores;
 mod writers;
 
 use std::io::{self, Write};
 
-use crate::script::{make, parse, Call, Line, MOST_BYTES};
+use crate::script::{make, parse, Answer, Call, Line, MOST_BYTES};
 use crate::station::{Key, Port, PortNumber, Station, Waiting};
 pub use blocks::write_runs;
 use plan::Step;
@@ -51,10 +52,13 @@ pub struct Generator {
     plan: Vec<Step>,
     /// Requests made of late with their ports, whether they still wait or not.
     recent: Vec<(u8, Waiting)>,
+    /// Stores written of late.
+    stores: Vec<Vec<u8>>,
 }
 
 const DJ_FRAME: usize = 15;
 const MOST_RECENT: usize = 6;
+const MOST_STORES: usize = 3;
 
 impl Generator {
     pub fn new(seed: u64) -> Generator {
@@ -64,6 +68,7 @@ impl Generator {
             focus: [1, 2],
             plan: Vec::new(),
             recent: Vec::new(),
+            stores: Vec::new(),
         }
     }
 
@@ -111,7 +116,14 @@ impl Generator {
     }
 
     fn follow(&mut self, call: &Call) {
-        make(&mut self.station, call);
+        let answer = make(&mut self.station, call);
+        if let (Call::Store(lent), Answer::Written(Ok(length), buffer)) = (call, answer) {
+            let offset = usize::from(lent.offset);
+            self.stores.push(buffer[offset..offset + length].to_vec());
+            if self.stores.len() > MOST_STORES {
+                self.stores.remove(0);
+            }
+        }
         if let Call::Request {
             port,
             key,
@@ -133,7 +145,7 @@ impl Generator {
     }
 
     fn call(&mut self) -> Call {
-        match self.rng.below(200) {
+        match self.rng.below(220) {
             0..=102 => Call::Take(self.report()),
             103..=142 => self.request(),
             143..=148 => self.cancel(),
@@ -146,6 +158,8 @@ impl Generator {
             182..=188 => self.frame(),
             189..=194 => Call::Mouse(self.payload()),
             195 => self.longest(),
+            196..=198 => self.store(),
+            199..=215 => self.restore(),
             _ => Call::Dump,
         }
     }

@@ -8,11 +8,14 @@ use crate::station::{
     read, read_mouse, write_frame, Frame, Key, Movement, Notice, Outcome, Port, PortNumber,
     Reading, Refusal, Station, Taken, Waiting,
 };
+use crate::store::Unread;
 
 /// The most bytes of a report, payload or parameter list.
 pub const MOST_BYTES: usize = 256;
 /// The most bytes of a lent buffer.
 pub const MOST_LENT: u16 = 4096;
+/// The most bytes of a store that is read.
+pub const MOST_STORE: usize = 4096;
 /// What every byte of a lent buffer holds before the call.
 pub const LENT: u8 = 0xEE;
 
@@ -53,6 +56,8 @@ pub enum Call {
         lent: Lent,
     },
     List(Lent),
+    Store(Lent),
+    Restore(Vec<u8>),
     Read(Vec<u8>),
     Frame {
         port: u8,
@@ -94,24 +99,24 @@ type Arguments = [u16; 6];
 struct Form {
     name: &'static [u8],
     arguments: &'static [Argument],
-    /// Whether a list of bytes ends the line.
-    list: bool,
+    /// How many bytes at most the list at the line's end has; none where 0.
+    list: usize,
     build: fn(Arguments, Vec<u8>) -> Call,
 }
 
 use Argument::{Byte, Length, Number, Port as PortWord};
 
-const FORMS: [Form; 12] = [
+const FORMS: [Form; 14] = [
     Form {
         name: b"take",
         arguments: &[],
-        list: true,
+        list: MOST_BYTES,
         build: |_, list| Call::Take(list),
     },
     Form {
         name: b"request",
         arguments: &[PortWord, Byte, Byte, Number, Number, Length],
-        list: true,
+        list: MOST_BYTES,
         build: |[port, byte2, byte3, ticks, offset, length], parameters| Call::Request {
             port: port as u8,
             key: key(byte2, byte3),
@@ -123,7 +128,7 @@ const FORMS: [Form; 12] = [
     Form {
         name: b"cancel",
         arguments: &[PortWord, Byte, Byte],
-        list: false,
+        list: 0,
         build: |[port, byte2, byte3, ..], _| Call::Cancel {
             port: port as u8,
             key: key(byte2, byte3),
@@ -132,13 +137,13 @@ const FORMS: [Form; 12] = [
     Form {
         name: b"tick",
         arguments: &[],
-        list: false,
+        list: 0,
         build: |_, _| Call::Tick,
     },
     Form {
         name: b"switch",
         arguments: &[Byte, Byte, Number, Length],
-        list: false,
+        list: 0,
         build: |[bits, timeout, offset, length, ..], _| Call::Switch {
             bits: bits as u8,
             timeout: timeout as u8,
@@ -148,13 +153,13 @@ const FORMS: [Form; 12] = [
     Form {
         name: b"get-paired",
         arguments: &[Number, Length],
-        list: false,
+        list: 0,
         build: |[offset, length, ..], _| Call::GetPaired(Lent { offset, length }),
     },
     Form {
         name: b"led",
         arguments: &[PortWord, Byte, Number, Length],
-        list: false,
+        list: 0,
         build: |[port, value, offset, length, ..], _| Call::Led {
             port: port as u8,
             value: value as u8,
@@ -164,19 +169,31 @@ const FORMS: [Form; 12] = [
     Form {
         name: b"list",
         arguments: &[Number, Length],
-        list: false,
+        list: 0,
         build: |[offset, length, ..], _| Call::List(Lent { offset, length }),
+    },
+    Form {
+        name: b"store",
+        arguments: &[Number, Length],
+        list: 0,
+        build: |[offset, length, ..], _| Call::Store(Lent { offset, length }),
+    },
+    Form {
+        name: b"restore",
+        arguments: &[],
+        list: MOST_STORE,
+        build: |_, list| Call::Restore(list),
     },
     Form {
         name: b"read",
         arguments: &[],
-        list: true,
+        list: MOST_BYTES,
         build: |_, list| Call::Read(list),
     },
     Form {
         name: b"frame",
         arguments: &[PortWord, Byte, Byte, Number, Length],
-        list: true,
+        list: MOST_BYTES,
         build: |[port, byte2, byte3, offset, length, ..], parameters| Call::Frame {
             port: port as u8,
             key: key(byte2, byte3),
@@ -187,13 +204,13 @@ const FORMS: [Form; 12] = [
     Form {
         name: b"mouse",
         arguments: &[],
-        list: true,
+        list: MOST_BYTES,
         build: |_, list| Call::Mouse(list),
     },
     Form {
         name: b"dump",
         arguments: &[],
-        list: false,
+        list: 0,
         build: |_, _| Call::Dump,
     },
 ];
@@ -288,7 +305,7 @@ impl Words {
         if let Some(argument) = form.arguments.get(self.given) {
             self.arguments[self.given] = argument.parse(word)?;
             self.given += 1;
-        } else if form.list && self.list.len() < MOST_BYTES {
+        } else if self.list.len() < form.list {
             self.list.push(parse_byte(word)?);
         } else {
             return None;
@@ -396,6 +413,9 @@ pub enum Answer {
     Taken(Taken),
     Cancelled,
     Ended([u8; 7]),
+    Restored,
+    /// Refused with 16, which comes with the number of the line.
+    BrokenLine(u8),
     Read(Reading),
     Moved(Movement),
     Dump(Box<Station>),
@@ -405,6 +425,7 @@ impl Answer {
     pub fn refusal(&self) -> Option<Refusal> {
         match self {
             Answer::Refused(refusal) | Answer::Written(Err(refusal), _) => Some(*refusal),
+            Answer::BrokenLine(_) => Some(Refusal::BrokenLine),
             _ => None,
         }
     }
@@ -416,6 +437,11 @@ pub fn make(station: &mut Station, call: &Call) -> Answer {
         Call::Take(report) => answer(station.take(report), Answer::Taken),
         Call::Cancel { port, key } => answer(station.cancel(*port, *key), |()| Answer::Cancelled),
         Call::Tick => Answer::Ended(station.tick()),
+        Call::Restore(text) => match station.restore(text) {
+            Ok(()) => Answer::Restored,
+            Err(Unread::BrokenLine(line)) => Answer::BrokenLine(line),
+            Err(unread) => Answer::Refused(unread.refusal()),
+        },
         Call::Read(report) => answer(read(report), Answer::Read),
         Call::Mouse(payload) => answer(read_mouse(payload), Answer::Moved),
         Call::Dump => Answer::Dump(Box::new(station.clone())),
@@ -424,6 +450,7 @@ pub fn make(station: &mut Station, call: &Call) -> Answer {
         | Call::GetPaired(lent)
         | Call::Led { lent, .. }
         | Call::List(lent)
+        | Call::Store(lent)
         | Call::Frame { lent, .. } => {
             let mut buffer = vec![LENT; usize::from(lent.length)];
             let result = write(station, call, usize::from(lent.offset), &mut buffer);
@@ -461,9 +488,11 @@ fn write(
         Call::GetPaired(_) => station.get_paired(offset, buffer),
         Call::Led { port, value, .. } => station.led(*port, *value, offset, buffer),
         Call::List(_) => station.list(offset, buffer),
+        Call::Store(_) => station.store(offset, buffer),
         Call::Take(_)
         | Call::Cancel { .. }
         | Call::Tick
+        | Call::Restore(_)
         | Call::Read(_)
         | Call::Mouse(_)
         | Call::Dump => unreachable!("no writer"),
@@ -495,6 +524,10 @@ impl Display for Answer {
             Answer::Cancelled => f.write_str("cancelled"),
             Answer::Ended([a, b, c, d, e, g, receiver]) => {
                 write!(f, "ended {a} {b} {c} {d} {e} {g} {receiver}")
+            }
+            Answer::Restored => f.write_str("restored"),
+            Answer::BrokenLine(line) => {
+                write!(f, "refused {} line={line}", Refusal::BrokenLine.number())
             }
             Answer::Read(reading) => fmt_reading(f, reading),
             Answer::Moved(movement) => write!(

@@ -2,7 +2,8 @@
 //! them, and the rules that need no station. Comments name the section of
 //! document 01 that a rule comes from.
 
-/// 01, "Refusal numbers". Each number is named here and nowhere else.
+/// 01, "Refusal numbers", and those of 02. Each number is named here and
+/// nowhere else.
 #[derive(Clone, Copy, Debug, PartialEq, Eq, Hash, PartialOrd, Ord)]
 #[repr(u8)]
 pub enum Refusal {
@@ -24,8 +25,8 @@ pub enum Refusal {
     UndeclaredType = 8,
     /// A forbidden request.
     ForbiddenRequest = 9,
-    /// The whole frame or listing doesn't fit between the given offset and the
-    /// buffer's end, or the offset lies past the end.
+    /// The whole frame, listing or store doesn't fit between the given offset
+    /// and the buffer's end, or the offset lies past the end.
     DoesNotFit = 10,
     /// The port has a waiting request with the same bytes 2 and 3.
     AlreadyWaiting = 11,
@@ -35,6 +36,10 @@ pub enum Refusal {
     NothingWaits = 13,
     /// Bit 6 or 7 of the device bits is set.
     ReservedDeviceBits = 14,
+    /// The first line of a store names another edition.
+    OtherEdition = 15,
+    /// A line of a store breaks the rules.
+    BrokenLine = 16,
 }
 
 impl Refusal {
@@ -275,7 +280,7 @@ impl Station {
         &self.ports[number.position()]
     }
 
-    fn port_mut(&mut self, number: PortNumber) -> &mut Port {
+    pub(crate) fn port_mut(&mut self, number: PortNumber) -> &mut Port {
         &mut self.ports[number.position()]
     }
 
@@ -787,7 +792,7 @@ fn room(buffer: &mut [u8], offset: usize, length: usize) -> Result<&mut [u8], Re
 }
 
 /// Writes `bytes` at an offset of a lent buffer and answers their number.
-fn put(bytes: &[u8], offset: usize, buffer: &mut [u8]) -> Result<usize, Refusal> {
+pub(crate) fn put(bytes: &[u8], offset: usize, buffer: &mut [u8]) -> Result<usize, Refusal> {
     room(buffer, offset, bytes.len())?.copy_from_slice(bytes);
     Ok(bytes.len())
 }

@@ -94,8 +94,21 @@ fn pings_fails_where_something_never_occurs() {
 }
 
 #[test]
+fn stores_fails_where_something_never_occurs() {
+    let script = oracle(&["random", "5", "50000"], b"").stdout;
+    let path = file("stored.script", &script);
+    let output = oracle(&["stores", path.to_str().unwrap()], b"");
+    assert!(output.status.success());
+    let path = file("unstored.script", b"tick\n");
+    let output = oracle(&["stores", path.to_str().unwrap()], b"");
+    assert!(!output.status.success());
+    let first = b"        0  store written; by devices, 0 to 6: 0 0 0 0 0 0 0\n";
+    assert!(output.stdout.starts_with(first));
+}
+
+#[test]
 fn strange_arguments_are_refused() {
-    let lines: [&[&str]; 8] = [
+    let lines: [&[&str]; 9] = [
         &[],
         &["play"],
         &["replay", "a", "b"],
@@ -104,6 +117,7 @@ fn strange_arguments_are_refused() {
         &["count"],
         &["serials"],
         &["pings"],
+        &["stores"],
     ];
     for arguments in lines {
         let output = oracle(arguments, b"");

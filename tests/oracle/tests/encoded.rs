@@ -1,6 +1,6 @@
 //! Encoded calls: blocks, rows and runs.
 
-use oracle::encoded::{run, run_all, Block, MALFORMED, ROW};
+use oracle::encoded::{opcode, run, run_all, Block, MALFORMED, RESTORED, ROW, UNREAD};
 use oracle::random::write_runs;
 
 fn block(opcode: u8, arguments: [u8; 3], data: &[u8]) -> Block {
@@ -94,7 +94,7 @@ fn malformed_blocks() {
         let cut = run(&tick[..length], &mut [], &mut answers);
         assert_eq!(cut, Err(MALFORMED), "{length} bytes");
     }
-    let unknown = encode(&[block(8, [0; 3], &[])]);
+    let unknown = encode(&[block(opcode::LAST + 1, [0; 3], &[])]);
     assert_eq!(run(&unknown, &mut [], &mut answers), Err(MALFORMED));
     let lent = Block {
         lent: 3,
@@ -116,14 +116,54 @@ fn rows_that_do_not_fit() {
     assert_eq!(answers, [0xEE; 2 * ROW]);
 }
 
-/// Take, cancel and tick are lent nothing, whatever their field says.
+/// 02, Ask 3: a store is written into the arena, and read from the data.
+#[test]
+fn stores() {
+    let text = b"pads\t1\n3\t2010\t0A1B2C3D\t0000000E\t2.0\t0\t0\t0\t7\t0\n";
+    let read = |text: &[u8]| block(opcode::RESTORE, [0; 3], text);
+    let store = Block {
+        offset: 1,
+        lent: text.len() as u16 + 2,
+        ..block(opcode::STORE, [0; 3], &[])
+    };
+    let blocks = [
+        store.clone(),
+        read(text),
+        read(b"pads\t10\n"),
+        read(&text[..text.len() - 1]),
+        read(b""),
+        store,
+    ];
+    let room = text.len() + 2;
+    let (mut arena, mut answers) = (vec![0xAA; 2 * room], [0; 6 * ROW]);
+    let encoded = encode(&blocks);
+    assert_eq!(run(&encoded, &mut arena, &mut answers), Ok(6 * ROW));
+    let rows: Vec<&[u8]> = answers.chunks(ROW).map(|row| &row[..3]).collect();
+    let length = text.len() as u8;
+    assert_eq!(
+        rows,
+        [
+            [13, 7, 0],
+            [RESTORED, 0, 0],
+            [UNREAD, 15, 0],
+            [UNREAD, 16, 2],
+            [UNREAD, 16, 1],
+            [13, length, 0]
+        ]
+    );
+    assert_eq!(arena[..9], *b"\xAApads\t1\n\xAA");
+    assert_eq!(arena[room + 1..2 * room - 1], text[..]);
+}
+
+/// Take, cancel, tick and restore are lent nothing, whatever their field says.
 #[test]
 fn calls_that_write_nothing() {
-    let blocks = [0, 2, 3].map(|opcode| Block {
+    let blocks = [opcode::TAKE, opcode::CANCEL, opcode::TICK, opcode::RESTORE];
+    let blocks = blocks.map(|opcode| Block {
         lent: 65535,
         ..block(opcode, [0; 3], &[])
     });
-    let mut answers = [0; 3 * ROW];
+    let mut answers = [0; 4 * ROW];
     assert_eq!(
         run(&encode(&blocks), &mut [], &mut answers),
         Ok(answers.len())

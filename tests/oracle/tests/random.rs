@@ -8,7 +8,8 @@ use oracle::count::Tally;
 use oracle::random::{write_script, Generator};
 use oracle::script::{make, parse, Answer, Call, Line, LENT};
 use oracle::station::{asked_serial, Outcome, PortNumber, Station, Taken};
-use oracle::{pings, serials};
+use oracle::store::read_store;
+use oracle::{pings, serials, stores};
 
 fn script(seed: u64, count: u64) -> Vec<u8> {
     let mut script = Vec::new();
@@ -36,6 +37,8 @@ fn name(call: &Call) -> &'static str {
         Call::GetPaired(_) => "get-paired",
         Call::Led { .. } => "led",
         Call::List(_) => "list",
+        Call::Store(_) => "store",
+        Call::Restore(_) => "restore",
         Call::Read(_) => "read",
         Call::Frame { .. } => "frame",
         Call::Mouse(_) => "mouse",
@@ -91,13 +94,33 @@ fn pings_are_answered() {
     assert!(!pings::Tally::default().is_complete());
 }
 
+/// Of every number of devices, with every line that breaks the rules, and in
+/// every way.
+#[test]
+fn stores_are_written_and_read() {
+    for seed in 1..=5 {
+        let tally = stores::Tally::read(&script(seed, 50_000)[..]).expect("memory can be read");
+        let mut text = Vec::new();
+        tally.print(&mut text).expect("memory can be written");
+        assert!(tally.is_complete(), "{}", String::from_utf8_lossy(&text));
+    }
+    assert!(!stores::Tally::default().is_complete());
+}
+
 #[test]
 fn a_missing_kind_and_a_strange_line_are_noticed() {
     assert!(!Tally::default().is_complete());
     for line in [
         "",
-        "refused 15",
+        "refused 15: EE",
+        "refused 15 line=1",
+        "refused 16",
+        "refused 16: EE",
+        "refused 16 line=0",
+        "refused 16 line=9",
+        "refused 17",
         "refused 0",
+        "restored 2",
         "wrote 8: 00",
         "reply",
         "reply port=2 byte2=00 byte3=11 start=4 length=3",
@@ -127,7 +150,7 @@ fn every_call_is_refused_in_every_way_and_no_other() {
             seen.insert((name(&call), refusal.number()));
         }
     }
-    let table: [(&str, &[u8]); 10] = [
+    let table: [(&str, &[u8]); 12] = [
         ("take", &[1, 2, 3, 4, 5, 6, 7, 8]),
         ("request", &[5, 9, 10, 11, 12]),
         ("cancel", &[5, 13]),
@@ -135,6 +158,8 @@ fn every_call_is_refused_in_every_way_and_no_other() {
         ("get-paired", &[10]),
         ("led", &[5, 10]),
         ("list", &[10]),
+        ("store", &[10]),
+        ("restore", &[15, 16]),
         ("read", &[1, 2, 3, 4, 5, 6]),
         ("frame", &[5, 9, 10]),
         ("mouse", &[3]),
@@ -172,6 +197,7 @@ fn writers_keep_the_bytes_around_the_frame() {
         | Call::GetPaired(lent)
         | Call::Led { lent, .. }
         | Call::List(lent)
+        | Call::Store(lent)
         | Call::Frame { lent, .. }) = call
         else {
             panic!("{call:?} is no writer");
@@ -184,13 +210,17 @@ fn writers_keep_the_bytes_around_the_frame() {
 }
 
 /// Striking out the calls for other devices leaves a port's record and
-/// answers. The calls for the receiver stay in every device's sequence.
+/// answers. The calls for the receiver stay in every device's sequence. A
+/// store that is read begins a new sequence with its own station.
 #[test]
 fn ports_are_independent() {
     let mut whole = Station::default();
     let mut alone: [Station; 7] = Default::default();
     for call in calls(14, 40_000) {
         let answer = make(&mut whole, &call);
+        if let Some(start) = start(&call) {
+            alone = [(); 7].map(|()| start.clone());
+        }
         for (slot, number) in PortNumber::ALL.into_iter().enumerate() {
             let station = &mut alone[slot];
             if call == Call::Tick {
@@ -210,6 +240,14 @@ fn ports_are_independent() {
             }
             assert_eq!(station.port(number), whole.port(number), "{call:?}");
         }
+    }
+}
+
+/// The station with which a read begins a new sequence, where it is accepted.
+fn start(call: &Call) -> Option<Station> {
+    match call {
+        Call::Restore(text) => read_store(text).ok(),
+        _ => None,
     }
 }
 
@@ -250,12 +288,20 @@ fn lent(answer: &Answer) -> Option<&Vec<u8>> {
 }
 
 /// Two orders in which each device's calls, the ticks and all calls for the
-/// receiver keep one sequence end in one station.
+/// receiver keep one sequence end in one station. A store that is read ends
+/// the sequence, and both begin anew with its station.
 #[test]
 fn orders_of_devices_do_not_matter() {
     let (mut one, mut other) = (Station::default(), Station::default());
     let mut held: [Vec<Call>; 6] = Default::default();
+    let mut starts = 0;
     for call in calls(15, 40_000) {
+        if let Some(start) = start(&call) {
+            catch_up(&mut other, &mut held, &Call::Dump);
+            assert_eq!(one, other);
+            other = start;
+            starts += 1;
+        }
         make(&mut one, &call);
         match named_port(&call) {
             Some(port @ 1..=6) => held[usize::from(port) - 1].push(call),
@@ -266,6 +312,7 @@ fn orders_of_devices_do_not_matter() {
     }
     catch_up(&mut other, &mut held, &Call::Dump);
     assert_eq!(one, other);
+    assert!(starts > 100);
 }
 
 /// Makes the calls that were held back, the highest device's first, and then

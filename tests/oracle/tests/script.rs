@@ -157,6 +157,7 @@ fn lent_buffers_are_at_most_4096() {
         "get-paired 0 L",
         "led 1 00 0 L",
         "list 0 L",
+        "store 0 L",
     ];
     for call in calls {
         assert!(is_call(call.replace('L', "4096")), "{call}");

@@ -4,7 +4,7 @@ use std::io::{self, Write};
 
 use super::rng::Rng;
 use super::Generator;
-use crate::encoded::{Block, HEADER, ROW};
+use crate::encoded::{opcode, Block, HEADER, ROW};
 use crate::script::{Call, Lent};
 use crate::station::Key;
 
@@ -70,7 +70,7 @@ fn spoil(rng: &mut Rng, encoded: &mut [u8], starts: &[usize]) {
     };
     let at = start + rng.pick(&[0, 0, 8, 9, 10, 11]);
     encoded[at] = match rng.below(4) {
-        0 => rng.pick(&[7, 8, 9, 0x80, 0xFF]),
+        0 => rng.pick(&[opcode::LAST, opcode::LAST + 1, opcode::LAST + 2, 0x80, 0xFF]),
         1 => encoded[at].wrapping_add(1),
         2 => encoded[at].wrapping_sub(1),
         _ => rng.byte(),
@@ -80,7 +80,7 @@ fn spoil(rng: &mut Rng, encoded: &mut [u8], starts: &[usize]) {
 /// The block of a call. What the call does not have is random.
 fn block(rng: &mut Rng, call: Call) -> Block {
     let mut block = Block {
-        opcode: 0,
+        opcode: opcode::TAKE,
         arguments: [rng.byte(), rng.byte(), rng.byte()],
         ticks: rng.below(65536) as u16,
         offset: rng.below(65536) as u16,
@@ -98,38 +98,46 @@ fn block(rng: &mut Rng, call: Call) -> Block {
             lent,
             parameters,
         } => {
-            block.opcode = 1;
+            block.opcode = opcode::REQUEST;
             block.arguments = named(port, key);
             block.ticks = ticks;
             block.data = parameters;
             lend(&mut block, lent);
         }
         Call::Cancel { port, key } => {
-            block.opcode = 2;
+            block.opcode = opcode::CANCEL;
             block.arguments = named(port, key);
         }
-        Call::Tick => block.opcode = 3,
+        Call::Tick => block.opcode = opcode::TICK,
         Call::Switch {
             bits,
             timeout,
             lent,
         } => {
-            block.opcode = 4;
+            block.opcode = opcode::SWITCH;
             block.arguments[..2].copy_from_slice(&[bits, timeout]);
             lend(&mut block, lent);
         }
         Call::GetPaired(lent) => {
-            block.opcode = 5;
+            block.opcode = opcode::GET_PAIRED;
             lend(&mut block, lent);
         }
         Call::Led { port, value, lent } => {
-            block.opcode = 6;
+            block.opcode = opcode::LED;
             block.arguments[..2].copy_from_slice(&[port, value]);
             lend(&mut block, lent);
         }
         Call::List(lent) => {
-            block.opcode = 7;
+            block.opcode = opcode::LIST;
             lend(&mut block, lent);
+        }
+        Call::Store(lent) => {
+            block.opcode = opcode::STORE;
+            lend(&mut block, lent);
+        }
+        Call::Restore(text) => {
+            block.opcode = opcode::RESTORE;
+            block.data = text;
         }
         Call::Read(_) | Call::Frame { .. } | Call::Mouse(_) | Call::Dump => {
             unreachable!("no call of the station")

@@ -33,30 +33,41 @@ pub enum Step {
     LinkDown(u8),
     Tick,
     List,
+    Store,
+    /// A read of a right store.
+    Restore,
+    /// A read of the own one.
+    RestoreOwn,
+    /// A read of one that breaks the rules, or nearly that.
+    RestoreBroken,
+    /// A read of the own store as far as it was written.
+    RestoreTorn,
     Dump,
 }
 
 impl Generator {
     pub(super) fn make_plan(&mut self) {
-        let mut steps = match self.rng.below(19) {
+        let mut steps = match self.rng.below(20) {
             0 => self.clearing(),
             1..=3 => self.filling(),
             4..=7 => self.finding(),
             8..=11 => self.pinging(),
+            12 => self.restarting(),
             _ => self.telling(),
         };
         steps.reverse();
         self.plan = steps;
     }
 
-    /// Unpairs every device and lists those that are left.
+    /// Unpairs every device, and lists and stores those that are left.
     fn clearing(&mut self) -> Vec<Step> {
         let devices = self.ports_where(|port| port.paired);
         let unpairing = devices.iter().rev();
         let mut steps: Vec<Step> = unpairing
             .flat_map(|&device| [Step::Unpair(device), Step::List])
             .collect();
-        steps.extend([Step::List, Step::Pair(self.device()), Step::List]);
+        steps.extend([Step::List, Step::Store, Step::Pair(self.device())]);
+        steps.extend([Step::List, Step::Store]);
         steps
     }
 
@@ -161,6 +172,31 @@ impl Generator {
         steps
     }
 
+    /// What a device has told is stored, reads are tried, one is accepted,
+    /// and a reply comes to what waited before.
+    fn restarting(&mut self) -> Vec<Step> {
+        let port = self.device_or_receiver();
+        let mut steps = vec![Step::Pair(port), Step::Ping(port), Step::Reply(port)];
+        if self.rng.chance(50) {
+            steps.extend([Step::Event(port), Step::Request(port), Step::Request(255)]);
+        }
+        steps.extend([Step::Ping(port), Step::Store]);
+        for _ in 0..self.rng.between(0, 3) {
+            steps.push(self.rng.pick(&[Step::RestoreTorn, Step::RestoreBroken]));
+        }
+        steps.push(Step::Restore);
+        match self.rng.below(3) {
+            0 => steps.extend([Step::Request(port), Step::Pair(port)]),
+            1 => steps.extend([Step::RestoreOwn, Step::Dump]),
+            _ => steps.push(Step::Dump),
+        }
+        if self.rng.chance(50) {
+            steps.push(Step::Ping(port));
+        }
+        steps.extend([Step::AnswerPing(port), Step::Store, Step::List]);
+        steps
+    }
+
     pub(super) fn planned(&mut self, step: Step) -> Call {
         match step {
             Step::Request(port) => {
@@ -184,6 +220,11 @@ impl Generator {
             Step::LinkDown(port) => Call::Take(self.dj(port, dj::LINK, &[1])),
             Step::Tick => Call::Tick,
             Step::List => self.list(),
+            Step::Store => self.store(),
+            Step::Restore => Call::Restore(self.right_store()),
+            Step::RestoreOwn => Call::Restore(self.station.store_text().into_bytes()),
+            Step::RestoreBroken => Call::Restore(self.broken_store()),
+            Step::RestoreTorn => Call::Restore(self.torn_store()),
             Step::Dump => Call::Dump,
         }
     }

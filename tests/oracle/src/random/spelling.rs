@@ -2,7 +2,7 @@
 //! allows, and lines that are no call.
 
 use super::rng::Rng;
-use crate::script::{parse, Call, Lent, Line, MOST_BYTES, MOST_LENT};
+use crate::script::{parse, Call, Lent, Line, MOST_BYTES, MOST_LENT, MOST_STORE};
 use crate::station::Key;
 
 type Words = Vec<Vec<u8>>;
@@ -56,6 +56,8 @@ fn words(rng: &mut Rng, call: &Call) -> Words {
         Call::Dump => named("dump", [], vec![]),
         Call::GetPaired(lent) => named("get-paired", lent_words(lent), vec![]),
         Call::List(lent) => named("list", lent_words(lent), vec![]),
+        Call::Store(lent) => named("store", lent_words(lent), vec![]),
+        Call::Restore(text) => named("restore", [], hex_list(rng, text)),
         Call::Cancel { port, key } => {
             let [byte2, byte3] = key_words(rng, key);
             named("cancel", [decimal(*port), byte2, byte3], vec![])
@@ -208,6 +210,9 @@ fn odd_line(rng: &mut Rng) -> &'static [u8] {
         b"getpaired 0 15",
         b"get_paired 0 15",
         b"listing 0 400",
+        b"stored 0 400",
+        b"restore pads 1",
+        b"store",
         b"request",
         b"cancel",
         b"led 1",
@@ -288,26 +293,30 @@ fn break_spacing(rng: &mut Rng, line: &mut Vec<u8>) {
 
 fn too_long_list(rng: &mut Rng) -> Vec<u8> {
     let starts = [
-        "take",
-        "read",
-        "mouse",
-        "request 2 00 11 10 0 7",
-        "frame 2 00 11 0 7",
+        ("take", MOST_BYTES),
+        ("read", MOST_BYTES),
+        ("mouse", MOST_BYTES),
+        ("request 2 00 11 10 0 7", MOST_BYTES),
+        ("frame 2 00 11 0 7", MOST_BYTES),
+        ("restore", MOST_STORE),
+        // A store, but for what is too much of it.
+        ("restore 70 61 64 73 09 31 0A", MOST_STORE - 7),
+        ("restore 70 61 64 73 09 32 0A", MOST_STORE - 7),
     ];
-    let start = rng.pick(&starts);
-    let length = MOST_BYTES + rng.between(1, 3);
-    let list = vec!["00"; length].join(" ");
+    let (start, most) = rng.pick(&starts);
+    let list = vec!["00"; most + rng.between(1, 3)].join(" ");
     format!("{start} {list}").into_bytes()
 }
 
 fn too_long_buffer(rng: &mut Rng) -> Vec<u8> {
     let length = usize::from(MOST_LENT) + rng.between(1, 2);
-    let line = match rng.below(6) {
+    let line = match rng.below(7) {
         0 => format!("request 2 00 11 10 0 {length} 00 00 5A"),
         1 => format!("frame 2 00 11 0 {length} 00 00 5A"),
         2 => format!("switch 03 0A 0 {length}"),
         3 => format!("get-paired 0 {length}"),
         4 => format!("led 2 01 0 {length}"),
+        5 => format!("store 0 {length}"),
         _ => format!("list 0 {length}"),
     };
     line.into_bytes()
