@@ -86,6 +86,19 @@ fn tick(station: Station, buffer: &mut [u8], at: usize) -> Shown
     }
 }
 
+fn restore(station: Station, text: &[u8], buffer: &mut [u8], at: usize) -> Shown
+    requires { ⌜ fitsAt answerRoom at (length (now buffer)) ≡ true ⌝ }
+    ensures { λ r. ⌜ Shows (stepped (steps.step station (steps.restore (now (text .entry))))) at (now (buffer .entry)) r (now (buffer .exit)) ⌝ }
+{
+    let restored = station.restore(text);
+    let answer = restored.answer;
+    let after = restored.station;
+    Shown {
+        next: replay_render::put_restored(buffer, at, answer),
+        station: after,
+    }
+}
+
 // Makes the call of a writer on its lent buffer.
 fn make(
     station: Station,
@@ -107,7 +120,7 @@ fn make(
         Writer::GetPaired => station.get_paired(lent, offset),
         Writer::Led { port, leds } => station.led(port, leds, lent, offset),
         Writer::List => station.list(lent, offset),
-        Writer::Store => station.list(lent, offset),
+        Writer::Store => station.store(lent, offset),
         Writer::Frame { port, byte2, byte3 } => {
             frame::request_frame(port, byte2, byte3, params, lent, offset)
         }
@@ -185,7 +198,7 @@ fn respond(
             return cancel(station, port, byte2, byte3, buffer, at);
         }
         Command::Tick => return tick(station, buffer, at),
-        Command::Restore => replay_render::put_no_call(buffer, at, number),
+        Command::Restore => return restore(station, bytes, buffer, at),
         Command::Read => replay_render::put_reading(buffer, at, report::read(bytes)),
         Command::Mouse => replay_render::put_moved(buffer, at, mouse::movement(bytes)),
         Command::Dump => replay_dump::put_dump(buffer, at, station),

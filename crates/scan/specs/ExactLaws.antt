@@ -205,11 +205,11 @@ led (suc fuel) n h l = go (ltb n 10) refl (led fuel (n / 10))
           small = b .small;
           so = decimal-more n large ∙ ap (λ (l : List ℕ). l ++ (digit (n % 10) ∷ [])) (b .so);
           runs = λ t.
-            ap (runAfter (b .d)) (append-assoc (b .ds) (digit (n % 10) ∷ []) t)
-            ∙ b .runs (digit (n % 10) ∷ t)
-            ∙ ap (λ (c : ℕ). runAfter (n / 10) (c ∷ t)) (low-digit (n % 10) low)
-            ∙ run-digit (n / 10) (n % 10) t low
-            ∙ ap (λ (k : ℕ). runAfter k t) whole;
+              ap (runAfter (b .d)) (append-assoc (b .ds) (digit (n % 10) ∷ []) t)
+              ∙ b .runs (digit (n % 10) ∷ t)
+              ∙ ap (λ (c : ℕ). runAfter (n / 10) (c ∷ t)) (low-digit (n % 10) low)
+              ∙ run-digit (n / 10) (n % 10) t low
+              ∙ ap (λ (k : ℕ). runAfter k t) whole;
         }
 
 -- what digits come to has them as its last

@@ -30,7 +30,7 @@ returns-5 c = rw (c .before .before .before .before .enum-told2 .given .1) (ap (
 
 returns-6 : tie.Need-returns-6
 unfolding writerStep steps.step callText
-returns-6 c = rw (c .before .before .before .before .enum-told3 .given .1) (ap (λ (o : WriteOutcome). stepped (steps.writeStep (c .before .before .before .before .before .before .before .before .args .station) o)) (c .before .before .list2 .ensures))
+returns-6 c = rw (c .before .before .before .before .enum-told3 .given .1) (ap (λ (o : WriteOutcome). stepped (steps.writeStep (c .before .before .before .before .before .before .before .before .args .station) o)) (c .before .before .store .ensures))
 
 returns-7 : tie.Need-returns-7
 unfolding writerStep steps.step callText
