@@ -1,11 +1,11 @@
--- Document 01, "Refusal numbers", "Writing", "Taking a HID++ report" and "Taking a DJ report", and document 02, Asks 1 and 2: which case a call falls into, and its whole outcome. Each case says all that it asks for, and so what the points before it left.
+-- Document 01, "Refusal numbers", "Writing", "Taking a HID++ report" and "Taking a DJ report", and document 02, Asks 1 to 3: which case a call falls into, and its whole outcome. Each case says all that it asks for, and so what the points before it left.
 use Prim.Native.Nat.{ℕ, _≤_, _<_}
 use mathlib.Core.Path.{_≡_}
 use mathlib.Core.Logic.{_↔_}
 use mathlib.Core.Bool.{true, false}
 use mathlib.Core.List.{List}
 use lib.ListN.{length}
-use Rattle.report.specs.Refusals.{noSuchPort, notPaired, notDeclared, forbidden, noRoom, alreadyWaiting, placesFull, notWaiting}
+use Rattle.report.specs.Refusals.{noSuchPort, notPaired, notDeclared, forbidden, noRoom, alreadyWaiting, placesFull, notWaiting, otherEdition, brokenLine}
 use Rattle.report.specs.Ports.{isPort}
 use Rattle.report.specs.Sizes.{softwareId}
 use Rattle.report.specs.Reading as reading
@@ -26,11 +26,14 @@ use Rattle.serial.specs.Serials.{SerialResult}
 use Rattle.serial.specs.Giving.{Gives}
 use Rattle.dj.specs.DjTaking.{isDeclared, radioAnswer, isMore, wpidOf, reportsOf, isPairedWith, isUp}
 use Rattle.request.specs.Requesting.{isForbidden, waitingRequest, RequestAt, refusedAt, withWaiting, requestAt}
+use Rattle.store.specs.Stores.{Store}
+use Rattle.restore.specs.Restoring.{restored, refused as restoreRefused, refusedAt as restoreRefusedAt}
+use Rattle.keeping.specs.Lines.{OtherEdition, BrokenAt}
 use Rattle.station.specs.declared.Station.{Station}
 use Rattle.station.specs.Stations.{portCount, positionOf, portAt, portFor, withPort}
 use Rattle.station.specs.StationTaking.{storedAt}
 use Rattle.station.specs.StationCalls.{requestedAt, cancelledAt, tickAll}
-use Rattle.sequence.specs.Steps.{Writer, Call, take, request, cancel, tick, write, Outcome, takeStep, requestStep, cancelStep, tickStep, writeStep, writerRule, step}
+use Rattle.sequence.specs.Steps.{Writer, Call, take, request, cancel, tick, write, restore, Outcome, takeStep, requestStep, cancelStep, tickStep, writeStep, restoreStep, writerRule, step}
 
 -- a request with these bytes 2 and 3 waits at the port
 abbrev pub Waits : Port → ℕ → ℕ → Type 0
@@ -202,6 +205,10 @@ pub data StepCase (st : Station) : Call → Outcome → Type 0 where
   cancelAtPort : {device byte2 byte3 : ℕ} {x : waiting.CancelResult} → isPort device ≡ true → CancelCase (portFor st device) byte2 byte3 x → StepCase st (cancel device byte2 byte3) (cancelStep (cancelledAt st (positionOf device) x))
   tickAllPorts : StepCase st tick (tickStep (tickAll st))
   writeOnly : {writer : Writer} {offset : ℕ} {lent : List ℕ} → StepCase st (write writer offset lent) (writeStep st (writerRule st writer offset lent))
+  -- a store: the station of its ports, whatever it was before; a text of another edition; and one whose line of this number is the first that breaks the rules
+  restoreStore : (text : List ℕ) (ports : List Port) → Store text ports → StepCase st (restore text) (restoreStep text (record { answer = restored; station = record { ports = ports } }))
+  restoreOther : (text : List ℕ) → OtherEdition text → StepCase st (restore text) (restoreStep text (record { answer = restoreRefused otherEdition; station = st }))
+  restoreBroken : (text : List ℕ) (line : ℕ) → BrokenAt text line → StepCase st (restore text) (restoreStep text (record { answer = restoreRefusedAt brokenLine line; station = st }))
 
 -- the port has all its places, whatever they hold
 abbrev pub Placed : Port → Type 0

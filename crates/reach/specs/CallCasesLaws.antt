@@ -9,7 +9,7 @@ use native.Mathlib.Omega.{arith}
 use lib.ListN.{length}
 use lib.Dec.{leb, eqb}
 use borrow.Author.Tests.{leb-true, leb-false, eqb-true, eqb-false, ltb-true, ltb-false, not-true, not-false, lt-ltb, le-ltb, le-leb, lt-leb, eq-eqb, ne-eqb}
-use Rattle.report.specs.ChoicesLaws.{by-case, both}
+use Rattle.report.specs.ChoicesLaws.{by-case, both, in-range}
 use Rattle.report.specs.Refusals.{notWaiting}
 use Rattle.report.specs.Reading as reading
 use Rattle.report.specs.Reading.{Report, Read, readRule}
@@ -34,16 +34,19 @@ use Rattle.serial.specs.Giving.{Gives}
 use Rattle.serial.specs.GivingLaws.{no-serial, given-exactly}
 use Rattle.dj.specs.DjTaking.{radioRule, unpairedRule, pairedRule, linkRule, otherRule, takeDj}
 use Rattle.request.specs.Requesting.{RequestAt, waitingRequest, requestBy, requestAt}
+use Rattle.restore.specs.Restoring.{StoreRead, storeOf, ofOther, brokenAt, readStore, restoredBy, restorePorts}
+use Rattle.keeping.specs.ReadingLaws.{reads-exactly, other-exactly}
+use Rattle.keeping.specs.LinesLaws.{broken-exactly}
 use Rattle.station.specs.declared.Station.{Station}
 use Rattle.station.specs.Stations.{positionOf, portFor, withPort}
 use Rattle.station.specs.StationsLaws.{position-within}
 use Rattle.station.specs.StationTaking.{storedAt, alsoAt, takeBy, takeRule}
-use Rattle.station.specs.StationCalls.{RequestOutcome, requestedAt, requestRule, CancelOutcome, cancelledAt, cancelRule}
-use Rattle.sequence.specs.Steps.{Call, take, request, cancel, tick, write, Outcome, takeStep, requestStep, cancelStep, step}
+use Rattle.station.specs.StationCalls.{RequestOutcome, requestedAt, requestRule, CancelOutcome, cancelledAt, cancelRule, restoredTo, restoreRule}
+use Rattle.sequence.specs.Steps.{Call, take, request, cancel, tick, write, restore, Outcome, takeStep, requestStep, cancelStep, restoreStep, step}
 use Rattle.reach.specs.ListsLaws.{found-passes, passes-found}
-use Rattle.sequence.specs.ReadingsLaws.{in-range, above}
+use Rattle.sequence.specs.ReadingsLaws.{above}
 use Rattle.reach.specs.SoundLaws.{empty-fails}
-use Rattle.reach.specs.CallCases.{Waits, Answered, Unasked, IsFailed, IsReply, IsStray, unnamed, otherPing, register, reserved, late, IsPlain, notification, major1, IsEvent, software0, HidppCase, givesFailed, givesReply, givesStray, givesPlain, givesEvent, gives, repliedPort, SerialCase, keepsNone, firstSerial, sameSerial, otherSerial, radioUnpaired, radioUndeclared, linkUnpaired, DjCase, djRefused, radioTaken, unpairs, pairedSame, pairedNew, linkSet, otherNotice, Writable, RequestRefused, is9, is10, is11, is12, RequestCase, requestRefused, accepted, CancelCase, refused13, cancelDone, StepCase, unread, listEmpty, hidppAtPort, serialAtPort, djAtPort, request5, requestAtPort, cancel5, cancelAtPort, tickAllPorts, writeOnly, Placed, AllPlaced, ByCases, HidppAnswers, RequestAnswers, CancelAnswers}
+use Rattle.reach.specs.CallCases.{Waits, Answered, Unasked, IsFailed, IsReply, IsStray, unnamed, otherPing, register, reserved, late, IsPlain, notification, major1, IsEvent, software0, HidppCase, givesFailed, givesReply, givesStray, givesPlain, givesEvent, gives, repliedPort, SerialCase, keepsNone, firstSerial, sameSerial, otherSerial, radioUnpaired, radioUndeclared, linkUnpaired, DjCase, djRefused, radioTaken, unpairs, pairedSame, pairedNew, linkSet, otherNotice, Writable, RequestRefused, is9, is10, is11, is12, RequestCase, requestRefused, accepted, CancelCase, refused13, cancelDone, StepCase, unread, listEmpty, hidppAtPort, serialAtPort, djAtPort, request5, requestAtPort, cancel5, cancelAtPort, tickAllPorts, writeOnly, restoreStore, restoreOther, restoreBroken, Placed, AllPlaced, ByCases, HidppAnswers, RequestAnswers, CancelAnswers}
 
 -- joined with a false test
 pub and-false : (b : Bool) → (b && false) ≡ false
@@ -381,7 +384,7 @@ module _ (st : Station) (placed : AllPlaced st) where
   take-case {bytes} (reading.dj r) e = djAtPort e (dj-case _ r bytes)
 
   pub step-case : (c : Call) → StepCase st c (step st c)
-  unfolding step takeRule requestRule cancelRule
+  unfolding step takeRule requestRule cancelRule restoreRule restorePorts
   step-case (take bytes) = take-case (readRule bytes) refl
   step-case (request device byte2 byte3 ticks params offset lent) =
       by-case (λ (o : RequestOutcome). StepCase st (request device byte2 byte3 ticks params offset lent) (requestStep params o)) _ (λ e. request5 (not-true _ e))
@@ -391,10 +394,20 @@ module _ (st : Station) (placed : AllPlaced st) where
       (λ e. cancelAtPort (not-false _ e) (cancel-case _ (at-port device) byte2 byte3))
   step-case tick = tickAllPorts
   step-case (write writer offset lent) = writeOnly
+  step-case (restore text) = restore-case (readStore text) refl
+    where
+      restore-case : (x : StoreRead) → readStore text ≡ x → StepCase st (restore text) (restoreStep text (restoredTo (restoredBy (st .ports) x)))
+      restore-case (storeOf ports) e = restoreStore text ports (reads-exactly text ports .0 e)
+      restore-case ofOther e = restoreOther text (other-exactly text .0 e)
+      restore-case (brokenAt line) e = restoreBroken text line (broken-exactly text line .0 e)
 
   read-as : {bytes : List ℕ} {x : Read} → readRule bytes ≡ x → step st (take bytes) ≡ takeStep bytes (takeBy x bytes st)
   unfolding step takeRule
   read-as {bytes} e = ap (λ (x : Read). takeStep bytes (takeBy x bytes st)) e
+
+  restored-as : {text : List ℕ} {x : StoreRead} → readStore text ≡ x → step st (restore text) ≡ restoreStep text (restoredTo (restoredBy (st .ports) x))
+  unfolding step restoreRule restorePorts
+  restored-as {text} e = ap (λ (x : StoreRead). restoreStep text (restoredTo (restoredBy (st .ports) x))) e
 
   step-only : {c : Call} {o : Outcome} → StepCase st c o → step st c ≡ o
   unfolding step takeBy requestRule cancelRule
@@ -422,6 +435,9 @@ module _ (st : Station) (placed : AllPlaced st) where
       simp e (ap (λ (x : waiting.CancelResult). cancelStep (cancelledAt st (positionOf device) x)) (cancel-only _ (at-port device) byte2 byte3 h))
   step-only tickAllPorts = refl
   step-only writeOnly = refl
+  step-only (restoreStore text ports h) = restored-as (reads-exactly text ports .1 h)
+  step-only (restoreOther text h) = restored-as (other-exactly text .1 h)
+  step-only (restoreBroken text line h) = restored-as (broken-exactly text line .1 h)
 
   pub by-cases : (c : Call) → ByCases st c
   by-cases c o = (λ e. subst (StepCase st c) e (step-case c), step-only)

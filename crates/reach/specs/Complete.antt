@@ -13,7 +13,8 @@ use Rattle.station.specs.declared.Station.{Station}
 use Rattle.station.specs.Stations.{portFor}
 use Rattle.station.specs.StationTaking.{takeRule}
 use Rattle.sequence.specs.Starts.{Start}
-use Rattle.sequence.specs.Steps.{Call, step, run}
+use Rattle.sequence.specs.Steps.{Call, begins, step, run}
+use Rattle.sequence.specs.Sequences.{Unread}
 use Rattle.sequence.specs.Transcripts.{transcript}
 use Rattle.sequence.specs.Sentence.{ByAnswer}
 use Rattle.sequence.specs.Refused.{isRefusal, Unchanged}
@@ -39,9 +40,9 @@ pub record Complete : Type 0 where
   -- a refused call changes nothing, and which port a call is for is what document 01 says of its answer: on any station
   pub refused : (st : Station) (c : Call) → isRefusal (step st c .answer) ≡ true → Unchanged st c (step st c)
   pub named : (st : Station) (c : Call) → ByAnswer st c
-  -- on every station that calls reach, of every call and each port: what becomes of each place, as the answer counts it; which fields change; and which request a report completes
-  pub ends : (st : Station) → Reached st → (c : Call) (n : ℕ) → isPort n ≡ true → EndsAt n c (step st c .answer) (portFor st n) (portFor (step st c .station) n)
-  pub changes : (st : Station) → Reached st → (c : Call) (n : ℕ) → isPort n ≡ true → ChangesListed n c (step st c .answer) (portFor st 255) (portFor st n) (portFor (step st c .station) n)
+  -- on every station that calls reach, of every call that begins no new sequence and each port: what becomes of each place, as the answer counts it; which fields change; and which request a report completes
+  pub ends : (st : Station) → Reached st → (c : Call) → begins c ≡ false → (n : ℕ) → isPort n ≡ true → EndsAt n c (step st c .answer) (portFor st n) (portFor (step st c .station) n)
+  pub changes : (st : Station) → Reached st → (c : Call) → begins c ≡ false → (n : ℕ) → isPort n ≡ true → ChangesListed n c (step st c .answer) (portFor st 255) (portFor st n) (portFor (step st c .station) n)
   pub completes : (st : Station) → Reached st → (bytes : List ℕ) → Completion st bytes (takeRule st bytes .answer) (takeRule st bytes .station)
-  -- over all of a run: what was accepted on a port has ended in one of the ways, or waits
-  pub accounted : (n : ℕ) → isPort n ≡ true → (st : Station) → Start st → (cs : List Call) → Accounted n (transcript st cs) (portFor (run st cs) n)
+  -- over all of a run, from its start up to the next accepted read: what was accepted on a port has ended in one of the ways, or waits
+  pub accounted : (n : ℕ) → isPort n ≡ true → (st : Station) → Start st → (cs : List Call) → Unread cs → Accounted n (transcript st cs) (portFor (run st cs) n)

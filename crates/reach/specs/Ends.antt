@@ -1,4 +1,4 @@
--- Document 01, "Writing", "Taking a HID++ report" and "Taking a DJ report", and document 02, Ask 1: what a call makes of each place of a port, and what its answer says of the requests that ended. Each count is that of places emptied.
+-- Document 01, "Writing", "Taking a HID++ report" and "Taking a DJ report", and document 02, Asks 1 and 3: what a call that begins no new sequence makes of each place of a port, and what its answer says of the requests that ended. Each count is that of places emptied.
 use Prim.Native.Nat.{ℕ, _+_, _-_, _<_}
 use mathlib.Core.Path.{_≡_}
 use mathlib.Core.Bool.{Bool, true, false, cond, not, _&&_}
@@ -17,7 +17,7 @@ use Rattle.port.specs.Answers.{Answer, refused, reply, stray, plain, event, fai
 use Rattle.serial.specs.Serials.{parameterFor}
 use Rattle.request.specs.Requesting.{waitingRequest}
 use Rattle.station.specs.Stations.{positionOf}
-use Rattle.sequence.specs.Steps.{Call, take, request, cancel, tick, write, CallAnswer, taken, written, cancelled, ticked}
+use Rattle.sequence.specs.Steps.{Call, take, request, cancel, tick, write, restore, CallAnswer, taken, written, cancelled, ticked, restoring}
 use Rattle.sequence.specs.Transcripts.{Entry}
 
 -- the ways in which a waiting request ends
@@ -70,6 +70,7 @@ takenEnding n (request device byte2 byte3 ticks params offset lent) a = nothing
 takenEnding n (cancel device byte2 byte3) a = nothing
 takenEnding n tick a = nothing
 takenEnding n (write writer offset lent) a = nothing
+takenEnding n (restore text) a = nothing
 
 -- a cancel answers only that it was done: which request it ended, the call says
 abbrev pub cancelEnding : ℕ → ℕ → ℕ → waiting.CancelAnswer → Ending
@@ -82,6 +83,7 @@ cancelledEnding (request device byte2 byte3 ticks params offset lent) a = nothin
 cancelledEnding (cancel device byte2 byte3) a = cancelEnding device byte2 byte3 a
 cancelledEnding tick a = nothing
 cancelledEnding (write writer offset lent) a = nothing
+cancelledEnding (restore text) a = nothing
 
 -- what a call's answer says of the requests of the port of a number
 abbrev pub endingOf : ℕ → Call → CallAnswer → Ending
@@ -89,6 +91,7 @@ endingOf n c (taken a) = takenEnding n c a
 endingOf n c (written a) = nothing
 endingOf n c (cancelled a) = cancelledEnding c a
 endingOf n c (ticked counts) = expired counts
+endingOf n c (restoring a) = nothing
 
 -- whether it ends this request, which waits on the port of a number, in this way
 abbrev pub endsBy : Way → ℕ → Ending → Request → Bool
@@ -122,6 +125,7 @@ isWritten (taken a) = false
 isWritten (written a) = wrote a
 isWritten (cancelled a) = false
 isWritten (ticked counts) = false
+isWritten (restoring a) = false
 
 abbrev pub begunOn : ℕ → Call → CallAnswer → ℕ
 begunOn n (take bytes) a = 0
@@ -129,6 +133,7 @@ begunOn n (request device byte2 byte3 ticks params offset lent) a = oneIf (eqb d
 begunOn n (cancel device byte2 byte3) a = 0
 begunOn n tick a = 0
 begunOn n (write writer offset lent) a = 0
+begunOn n (restore text) a = 0
 
 abbrev pub isTick : Call → Bool
 isTick (take bytes) = false
@@ -136,6 +141,7 @@ isTick (request device byte2 byte3 ticks params offset lent) = false
 isTick (cancel device byte2 byte3) = false
 isTick tick = true
 isTick (write writer offset lent) = false
+isTick (restore text) = false
 
 -- what a call with its answer makes of one place of the port of a number: it stays, unless a request waits there and the call is a tick; is lowered by a tick, is filled by this very request, or is emptied in one of the ways
 pub data Fate (n : ℕ) (c : Call) (a : CallAnswer) (before after : Request) : Type 0 where

@@ -13,7 +13,7 @@ use Rattle.hidpp.specs.HidppRecords.{holds, isPing, isGetFeature}
 use Rattle.serial.specs.Serials.{Given, noSerial, serialOf, givenBy, isAnother}
 use Rattle.dj.specs.DjTaking.{isPairedWith}
 use Rattle.reach.specs.Completion.{isReply}
-use Rattle.sequence.specs.Steps.{Call, take, request, cancel, tick, write, CallAnswer, taken, written, cancelled, ticked}
+use Rattle.sequence.specs.Steps.{Call, take, request, cancel, tick, write, restore, CallAnswer, taken, written, cancelled, ticked, restoring}
 
 -- what a port holds
 pub data Field : Type 0 where
@@ -86,14 +86,16 @@ answerLists p (taken a) f = takeLists p a f
 answerLists p (written a) f = is places f
 answerLists p (cancelled a) f = is places f
 answerLists p (ticked counts) f = is places f
+answerLists p (restoring a) f = false
 
--- the port that a call names; a tick lowers the ticks left on all of them, and a writer of a frame alone, or of the listing, changes nothing
+-- the port that a call names; a tick lowers the ticks left on all of them, a writer of a frame alone, of the listing or of the store changes nothing, nor does a read that is refused
 abbrev pub touches : ℕ → Call → Bool
 touches n (take bytes) = eqb (byte bytes 1) n
 touches n (request device byte2 byte3 ticks params offset lent) = eqb device n
 touches n (cancel device byte2 byte3) = eqb device n
 touches n tick = true
 touches n (write writer offset lent) = false
+touches n (restore text) = false
 
 -- the serial of a device that is paired is set; where it is another one, all but pairing, WPID and bitfield may change
 abbrev pub serialLists : ℕ → Port → Given → Field → Bool
@@ -110,6 +112,7 @@ answerGives w bytes (taken a) = takenGives w bytes a
 answerGives w bytes (written a) = noSerial
 answerGives w bytes (cancelled a) = noSerial
 answerGives w bytes (ticked counts) = noSerial
+answerGives w bytes (restoring a) = noSerial
 
 abbrev pub callGives : Port → Call → CallAnswer → Given
 callGives w (take bytes) a = answerGives w bytes a
@@ -117,6 +120,7 @@ callGives w (request device byte2 byte3 ticks params offset lent) a = noSerial
 callGives w (cancel device byte2 byte3) a = noSerial
 callGives w tick a = noSerial
 callGives w (write writer offset lent) a = noSerial
+callGives w (restore text) a = noSerial
 
 -- whether the documents list the field of the port p of the number n for this call with this answer, where port 255 is w
 abbrev pub lists : ℕ → Port → Port → Call → CallAnswer → Field → Bool

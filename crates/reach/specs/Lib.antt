@@ -13,6 +13,7 @@ pub mod EndsExamples
 pub mod Fields
 pub mod FieldsLaws
 pub mod FieldsExamples
+pub mod StartLaws
 pub mod StepLaws
 pub mod Completion
 pub mod CompletionLaws

@@ -1,4 +1,4 @@
--- Document 01, "Refusal numbers": the table, row by row, each row with what the checks before it leave: a call is refused with a number exactly when one of its rows with that number holds.
+-- Document 01, "Refusal numbers", and document 02, Ask 3: the table, row by row, each row with what the checks before it leave: a call is refused with a number exactly when one of its rows with that number holds.
 use Prim.Native.Nat.{ℕ, _<_}
 use mathlib.Core.Path.{_≡_}
 use mathlib.Core.Logic.{_↔_}
@@ -14,9 +14,13 @@ use Rattle.frame.specs.Writing.{fitsAt, switchFrame, getPairedFrame, ledFrame, 
 use Rattle.port.specs.Answers as answers
 use Rattle.port.specs.Waiting as waiting
 use Rattle.listing.specs.Listing.{listing}
+use Rattle.store.specs.Stores.{storeText}
+use Rattle.restore.specs.Restoring as restoring
+use Rattle.keeping.specs.Lines.{OtherEdition, BrokenAt}
 use Rattle.station.specs.declared.Station.{Station}
 use Rattle.station.specs.Stations.{portFor}
-use Rattle.sequence.specs.Steps.{switch, getPaired, led, list, Call, take, request, cancel, write, CallAnswer, taken, written, cancelled}
+use Rattle.sequence.specs.Steps.{switch, getPaired, led, list, store, Call, take, request, cancel, write, restore, CallAnswer, taken, written, cancelled}
+use Rattle.sequence.specs.Steps as steps
 use Rattle.reach.specs.CallCases.{Waits, DjRefused, RequestRefused}
 
 -- a report of one of the four ids and of its length
@@ -60,12 +64,19 @@ pub data RefusalRow (st : Station) : Call → ℕ → Type 0 where
   led10 : {device leds offset : ℕ} {lent : List ℕ} → isDevice device ≡ true → LacksRoom (length (ledFrame device leds)) offset lent → RefusalRow st (write (led device leds) offset lent) 10
   -- the listing: 10
   list10 : {offset : ℕ} {lent : List ℕ} → LacksRoom (length (listing (st .ports))) offset lent → RefusalRow st (write list offset lent) 10
+  -- the store: 10
+  store10 : {offset : ℕ} {lent : List ℕ} → LacksRoom (length (storeText (st .ports))) offset lent → RefusalRow st (write store offset lent) 10
+  -- restore: 15, 16
+  restore15 : (text : List ℕ) → OtherEdition text → RefusalRow st (restore text) 15
+  restore16 : (text : List ℕ) (line : ℕ) → BrokenAt text line → RefusalRow st (restore text) 16
 
 -- the answer is this refusal
 pub data RefusedWith : CallAnswer → ℕ → Type 0 where
   takeWith : {number : ℕ} → RefusedWith (taken (answers.refused number)) number
   writeWith : {number : ℕ} → RefusedWith (written (writing.refused number)) number
   cancelWith : {number : ℕ} → RefusedWith (cancelled (waiting.CancelAnswer.refused number)) number
+  restoreWith : {number : ℕ} → RefusedWith (steps.restoring (restoring.refused number)) number
+  lineWith : {number line : ℕ} → RefusedWith (steps.restoring (restoring.refusedAt number line)) number
 
 -- for every call and number
 abbrev pub ByTheTable : Station → Call → CallAnswer → Type 0

@@ -18,18 +18,19 @@ use Rattle.port.specs.declared.Port.{Port}
 use Rattle.port.specs.Answers.{About, reply, Result}
 use Rattle.port.specs.Waiting as waiting
 use Rattle.listing.specs.Listing.{listing, listingRule}
+use Rattle.store.specs.Stores.{storeText, storeRule}
 use Rattle.hidpp.specs.declared.Message.{Message}
 use Rattle.request.specs.Requesting.{RequestAt}
 use Rattle.station.specs.declared.Station.{Station}
 use Rattle.sequence.specs.Readings.{ReadFits}
 use Rattle.sequence.specs.ReadingsLaws.{read-fits}
-use Rattle.sequence.specs.Steps.{Writer, switch, getPaired, led, list, Call, take, write, taken, written, cancelled, Outcome, writerRule, step}
+use Rattle.sequence.specs.Steps.{Writer, switch, getPaired, led, list, store, Call, take, write, taken, written, cancelled, Outcome, writerRule, step}
 use Rattle.sequence.specs.Remaining.{view}
 use Rattle.reach.specs.CallCases as cases
-use Rattle.reach.specs.CallCases.{Waits, RequestRefused, HidppCase, givesFailed, givesReply, givesStray, givesPlain, givesEvent, DjRefused, DjCase, djRefused, RequestCase, requestRefused, CancelCase, refused13, StepCase, unread, hidppAtPort, serialAtPort, djAtPort, requestAtPort, cancelAtPort, writeOnly, AllPlaced}
+use Rattle.reach.specs.CallCases.{Waits, RequestRefused, HidppCase, givesFailed, givesReply, givesStray, givesPlain, givesEvent, DjRefused, DjCase, djRefused, RequestCase, requestRefused, CancelCase, refused13, StepCase, unread, hidppAtPort, serialAtPort, djAtPort, requestAtPort, cancelAtPort, writeOnly, restoreOther, restoreBroken, AllPlaced}
 use Rattle.reach.specs.CallCasesLaws.{step-case, by-cases}
 use Rattle.reach.specs.RefusalTable as table
-use Rattle.reach.specs.RefusalTable.{Sized, ReadRefused, is1, is2, is3, is4, hidpp5, dj5, is6, RefusalRow, byBytes, byPort, cancel13, switch14, switch10, getPaired10, led5, led10, list10, RefusedWith, takeWith, writeWith, cancelWith, ByTheTable}
+use Rattle.reach.specs.RefusalTable.{Sized, ReadRefused, is1, is2, is3, is4, hidpp5, dj5, is6, RefusalRow, byBytes, byPort, cancel13, switch14, switch10, getPaired10, led5, led10, list10, store10, restore15, restore16, RefusedWith, takeWith, writeWith, cancelWith, restoreWith, lineWith, ByTheTable}
 
 -- why a report is refused
 module _ (bytes : List ℕ) where
@@ -128,7 +129,7 @@ module _ (st : Station) where
   same-number writeWith = refl
 
   writer-why : (writer : Writer) (offset : ℕ) (lent : List ℕ) (number : ℕ) → RefusedWith (written (writerRule st writer offset lent .answer)) number → RefusalRow st (write writer offset lent) number
-  unfolding writing.switchRule writing.getPairedRule writing.ledRule listingRule
+  unfolding writing.switchRule writing.getPairedRule writing.ledRule listingRule storeRule
   writer-why (switch bits timeout) offset lent number r = go (writing.hasReservedBits bits) refl r
     where
       go : (b : Bool) → writing.hasReservedBits bits ≡ b → RefusedWith (written (cond b (writing.kept 14 lent) (writing.frameAt (writing.switchFrame bits timeout) offset lent) .answer)) number → RefusalRow st (write (switch bits timeout) offset lent) number
@@ -145,6 +146,8 @@ module _ (st : Station) where
           let h = short-frame (frame-why (writing.ledFrame device leds) offset lent) r in is-number (led10 e (h .1)) (h .0)
   writer-why list offset lent number r =
       let h = short-frame (frame-why (listing (st .ports)) offset lent) r in is-number (list10 (h .1)) (h .0)
+  writer-why store offset lent number r =
+      let h = short-frame (frame-why (storeText (st .ports)) offset lent) r in is-number (store10 (h .1)) (h .0)
 
   -- a DJ report at the port that byte 1 names
   dj-row : {bytes : List ℕ} (r : Report) {number : ℕ} → r ≡ reportFrom djStart bytes → readRule bytes ≡ reading.dj r → DjRefused (view (r .device) st) r bytes number → RefusalRow st (take bytes) number
@@ -163,6 +166,8 @@ module _ (st : Station) where
   case-why (cases.cancel5 e) cancelWith = table.cancel5 e
   case-why (cancelAtPort e h) r = let k = cancel-why h r in is-number (cancel13 e (k .1)) (k .0)
   case-why (writeOnly {writer} {offset} {lent}) r = writer-why writer offset lent _ r
+  case-why (restoreOther text h) restoreWith = restore15 text h
+  case-why (restoreBroken text line h) lineWith = restore16 text line h
 
   module _ (placed : AllPlaced st) where
     -- the case of a call gives its answer
@@ -171,7 +176,7 @@ module _ (st : Station) where
         subst (λ (x : Outcome). RefusedWith (x .answer) number) (sym (by-cases st placed c o .1 h)) r
 
     row-refused : {c : Call} {number : ℕ} → RefusalRow st c number → RefusedWith (step st c .answer) number
-    unfolding step writing.switchRule writing.getPairedRule writing.ledRule listingRule reportFrom
+    unfolding step writing.switchRule writing.getPairedRule writing.ledRule listingRule storeRule reportFrom
     row-refused (byBytes {bytes} {number} h) = as-case (unread (read-refused bytes number .1 h)) takeWith
     row-refused (byPort {bytes} e h) = as-case (djAtPort e (djRefused h)) takeWith
     row-refused (table.request5 e) = as-case (cases.request5 e) writeWith
@@ -184,6 +189,9 @@ module _ (st : Station) where
     row-refused (led5 e) = simp e writeWith
     row-refused (led10 {device} {leds} {offset} {lent} e h) = simp e (frame-short (writing.ledFrame device leds) offset lent h)
     row-refused (list10 {offset} {lent} h) = frame-short (listing (st .ports)) offset lent h
+    row-refused (store10 {offset} {lent} h) = frame-short (storeText (st .ports)) offset lent h
+    row-refused (restore15 text h) = as-case (restoreOther text h) restoreWith
+    row-refused (restore16 text line h) = as-case (restoreBroken text line h) lineWith
 
     pub by-the-table : (c : Call) → ByTheTable st c (step st c .answer)
     by-the-table c number = (case-why (step-case st placed c), row-refused)

@@ -6,7 +6,7 @@ use mathlib.Core.List.{List}
 use native.Mathlib.Omega.{arith}
 use lib.ListN.{length}
 use borrow.Author.Tests.{eqb-true, not-false}
-use Rattle.report.specs.ChoicesLaws.{neither}
+use Rattle.report.specs.ChoicesLaws.{neither, in-range}
 use Rattle.report.specs.Ports.{inRange}
 use Rattle.report.specs.Reading.{Report}
 use Rattle.frame.specs.Forbidden.{isSized, isAskable, isForbiddenFrame}
@@ -21,7 +21,6 @@ use Rattle.hidpp.specs.HidppTaking.{named2, named3, code}
 use Rattle.serial.specs.Serials.{SerialResult}
 use Rattle.request.specs.Requesting.{RequestAt, maxTicks, isForbidden, waitingRequest}
 use Rattle.station.specs.Stations.{receiverPosition}
-use Rattle.sequence.specs.ReadingsLaws.{in-range}
 use Rattle.reach.specs.Sound.{SoundPort}
 use Rattle.reach.specs.SoundLaws.{sound-ended, sound-asked, Records, same, reply-records, error-records, event-records, records-sound, sound-fresh}
 use Rattle.reach.specs.CallCases.{failedPlace, repliedPlace, HidppCase, givesFailed, givesReply, givesStray, givesPlain, givesEvent, SerialCase, keepsNone, firstSerial, sameSerial, otherSerial, DjCase, djRefused, radioTaken, unpairs, pairedSame, pairedNew, linkSet, otherNotice, RequestCase, requestRefused, accepted, CancelCase, refused13, cancelDone}

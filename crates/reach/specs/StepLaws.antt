@@ -1,7 +1,7 @@
--- Document 01, "Writing" and "Sequences of calls", and document 02, Ask 1: what a call comes to on the station, port by port, and what calls reach.
+-- Document 01, "Writing" and "Sequences of calls", and document 02, Asks 1 and 3: what a call comes to on the station, port by port, and what calls reach.
 use Prim.Native.Nat.{ℕ, _+_, _-_, _<_}
 use mathlib.Core.Path.{_≡_, refl, sym, _∙_, ap, subst}
-use mathlib.Core.Bool.{Bool, true, false, cond, _&&_, _||_}
+use mathlib.Core.Bool.{Bool, true, false, cond, _&&_, _||_, true≢false}
 use mathlib.Core.List.{List, [], _∷_, map}
 use native.Mathlib.Decide.{ℕ-discrete}
 use native.Mathlib.Omega.{arith}
@@ -27,6 +27,8 @@ use Rattle.serial.specs.Serials.{parameterFor, Given, serialOf, givenBy, Serial
 use Rattle.serial.specs.Giving.{Gives}
 use Rattle.serial.specs.GivingLaws.{given-exactly}
 use Rattle.request.specs.Requesting.{RequestAt, waitingRequest}
+use Rattle.store.specs.Stores.{Store}
+use Rattle.keeping.specs.ReadingLaws.{reads-exactly}
 use Rattle.station.specs.declared.Station.{Station}
 use Rattle.station.specs.Stations.{portCount, positionOf, freshStation, noPort, portAt, withPort}
 use Rattle.station.specs.StationsLaws.{device-number, position-within}
@@ -35,17 +37,19 @@ use Rattle.station.specs.StationCalls as stations
 use Rattle.station.specs.StationCalls.{tickedPort, tickAll}
 use Rattle.sequence.specs.Readings.{ReadFits}
 use Rattle.sequence.specs.ReadingsLaws.{dj-port, read-fits, receiver-kind}
-use Rattle.sequence.specs.Starts.{Start, fresh}
-use Rattle.sequence.specs.Steps.{Call, take, request, cancel, tick, write, CallAnswer, taken, written, cancelled, ticked, Outcome, takeStep, tickStep, step, run}
+use Rattle.sequence.specs.Starts.{Start, restored}
+use Rattle.sequence.specs.Steps.{Call, take, request, cancel, tick, write, restore, CallAnswer, taken, written, cancelled, ticked, Outcome, takeStep, tickStep, isStore, begins, step, run}
+use Rattle.sequence.specs.Sequences.{Unread}
 use Rattle.sequence.specs.Transcripts.{transcript}
 use Rattle.sequence.specs.Remaining.{view}
 use Rattle.sequence.specs.NumbersLaws.{device-port, one-number}
-use Rattle.sequence.specs.IndependenceLaws.{stored, elsewhere, ticked-at, counted-at}
+use Rattle.sequence.specs.IndependenceLaws.{stored, elsewhere, ticked-at, counted-at, seven-start}
 use Rattle.reach.specs.ListsLaws.{found-passes, sum-set, after-map}
 use Rattle.reach.specs.Sound.{SoundPort, Reached}
 use Rattle.reach.specs.SoundLaws.{sound-ticks, sound-fresh}
+use Rattle.reach.specs.StartLaws.{start-port, stored-sound, stored-places}
 use Rattle.reach.specs.SoundCallsLaws.{allowed, hidpp-sound, serial-sound, dj-sound, request-sound, cancel-sound}
-use Rattle.reach.specs.CallCases.{Answered, Placed, HidppCase, givesReply, gives, repliedPort, SerialCase, RequestCase, requestRefused, accepted, StepCase, unread, listEmpty, hidppAtPort, serialAtPort, djAtPort, request5, requestAtPort, cancel5, cancelAtPort, tickAllPorts, writeOnly, AllPlaced}
+use Rattle.reach.specs.CallCases.{Answered, Placed, HidppCase, givesReply, gives, repliedPort, SerialCase, RequestCase, requestRefused, accepted, StepCase, unread, listEmpty, hidppAtPort, serialAtPort, djAtPort, request5, requestAtPort, cancel5, cancelAtPort, tickAllPorts, writeOnly, restoreStore, restoreOther, restoreBroken, AllPlaced}
 use Rattle.reach.specs.CallCasesLaws.{and-false, serial-answered, empty-place, step-case}
 use Rattle.reach.specs.Ends.{isTick, takeEnding, Way, byReply, byError, byExpiry, byCancel, byDrop, isWay, Ending, endingOf, nothing, dropped, endsBy, oneIf, begunOn, Fate, stays, lowered, filled, emptied, waitingOn, EndsAt, endedIn, begunIn, Accounted}
 use Rattle.reach.specs.EndsLaws.{Elsewhere, sum-zero, Change, same, empties, EndingAt, elsewhere as ends-elsewhere, reply-ends, hidpp-ends, serial-ends, dj-ends, cancel-ends, hidpp-apart, dj-apart, cancel-apart}
@@ -146,11 +150,21 @@ tick-sound : (position : ℕ) (p : Port) → SoundPort position p → SoundPort 
 unfolding tickedPort withPlaces tickRule
 tick-sound position p s = record { receiver = s .receiver; unpaired = s .unpaired; indexes = s .indexes; waiting = sound-ticks (s .waiting) }
 
+-- a start
+pub reached-start : {st : Station} → Start st → Reached st
+reached-start {st} begun =
+    record { all = seven-start begun; each = λ position h. stored-sound position (portAt st position) (start-port begun position h) }
+
+-- an accepted read begins a new sequence
+is-begun : (text : List ℕ) (ports : List Port) → Store text ports → begins (restore text) ≡ false → ⊥
+unfolding begins
+is-begun text ports h e = true≢false (sym (ap isStore (reads-exactly text ports .1 h)) ∙ e)
+
 -- one call on a station that calls reach
 record Steps (st : Station) (c : Call) (o : Outcome) : Type 0 where
   reached : Reached (o .station)
-  ends : (n : ℕ) → isPort n ≡ true → EndsAt n c (o .answer) (view n st) (view n (o .station))
-  changes : (n : ℕ) → isPort n ≡ true → ChangesListed n c (o .answer) (view receiver st) (view n st) (view n (o .station))
+  ends : begins c ≡ false → (n : ℕ) → isPort n ≡ true → EndsAt n c (o .answer) (view n st) (view n (o .station))
+  changes : begins c ≡ false → (n : ℕ) → isPort n ≡ true → ChangesListed n c (o .answer) (view receiver st) (view n st) (view n (o .station))
 
 reached-with : (st : Station) → Reached st → (position : ℕ) → position < portCount → (q : Port) → SoundPort position q → Reached (withPort st position q)
 unfolding withPort
@@ -198,8 +212,8 @@ module _ (st : Station) (k : Reached st) where
   idle {c} {a} t z e read lent =
       record {
         reached = k;
-        ends = λ n h. ends-only n c a t (z n) (e n);
-        changes = λ n h. unlisted-kept (keeps-all _ (view n st));
+        ends = λ b n h. ends-only n c a t (z n) (e n);
+        changes = λ b n h. unlisted-kept (keeps-all _ (view n st));
       }
 
   nothing-ends : (n : ℕ) → EndingAt n nothing (view n st) (view n st)
@@ -214,8 +228,8 @@ module _ (st : Station) (k : Reached st) where
   taken-at bytes device x d e sound ends apart fields =
       record {
         reached = reached-with st k (positionOf device) (position-within device) (x .port) sound;
-        ends = λ n h. at-port (λ i p q. EndsAt i (take bytes) (taken (x .answer)) p q) device n (x .port) d h (ends-only device (take bytes) (taken (x .answer)) refl refl ends) (λ z. ends-only n (take bytes) (taken (x .answer)) refl refl (ends-elsewhere n (view n st) (view n st) (takeEnding n bytes (x .answer)) (apart n z) refl));
-        changes = λ n h. at-port (λ i p q. ChangesListed i (take bytes) (taken (x .answer)) (view receiver st) p q) device n (x .port) d h (listed-at _ e fields) (λ z. unlisted-kept (keeps-all _ (view n st)));
+        ends = λ b n h. at-port (λ i p q. EndsAt i (take bytes) (taken (x .answer)) p q) device n (x .port) d h (ends-only device (take bytes) (taken (x .answer)) refl refl ends) (λ z. ends-only n (take bytes) (taken (x .answer)) refl refl (ends-elsewhere n (view n st) (view n st) (takeEnding n bytes (x .answer)) (apart n z) refl));
+        changes = λ b n h. at-port (λ i p q. ChangesListed i (take bytes) (taken (x .answer)) (view receiver st) p q) device n (x .port) d h (listed-at _ e fields) (λ z. unlisted-kept (keeps-all _ (view n st)));
       }
 
   device-in : (start : ℕ) (bytes : List ℕ) {r : Report} → r ≡ reportFrom start bytes → byte bytes 1 ≡ r .device
@@ -233,8 +247,8 @@ module _ (st : Station) (k : Reached st) where
           all = seven-ticked;
           each = λ position h. subst (SoundPort position) (sym (ticked-at st position)) (tick-sound position (portAt st position) (k .each position h));
         };
-        ends = λ n h. subst (EndsAt n tick (ticked (tickAll st .ended)) (view n st)) (sym (ticked-at st (positionOf n))) (tick-ends n (tickAll st .ended) (view n st) (counted-at st (positionOf n)));
-        changes = λ n h. subst (ChangesListed n tick (ticked (tickAll st .ended)) (view receiver st) (view n st)) (sym (ticked-at st (positionOf n))) (λ f q. unlisted-kept (tick-keeps (view n st)) f (neither (is places f) false q .0));
+        ends = λ b n h. subst (EndsAt n tick (ticked (tickAll st .ended)) (view n st)) (sym (ticked-at st (positionOf n))) (tick-ends n (tickAll st .ended) (view n st) (counted-at st (positionOf n)));
+        changes = λ b n h. subst (ChangesListed n tick (ticked (tickAll st .ended)) (view receiver st) (view n st)) (sym (ticked-at st (positionOf n))) (λ f q. unlisted-kept (tick-keeps (view n st)) f (neither (is places f) false q .0));
       }
 
   -- a reply that gives a device's serial
@@ -278,11 +292,11 @@ module _ (st : Station) (k : Reached st) where
         let c = take bytes in
         record {
           reached = reached-with (withPort st (positionOf (r .device)) (repliedPort p message)) (reached-with st k (positionOf (r .device)) (position-within (r .device)) (repliedPort p message) (hidpp-sound _ _ s replies)) (positionOf device) (position-within device) (x .port) (serial-sound _ _ (sound-at device) h);
-          ends = λ n i. two-ports (λ j y z. EndsAt j c (taken answer) y z) (r .device) device n (repliedPort p message) (x .port) (fits .0) (device-port device (g .named)) i
+          ends = λ b n i. two-ports (λ j y z. EndsAt j c (taken answer) y z) (r .device) device n (repliedPort p message) (x .port) (fits .0) (device-port device (g .named)) i
               (ends-only (r .device) c (taken answer) refl refl (reply-ends p (s .waiting) bytes message (x .dropped) answered))
               (ends-only device c (taken answer) refl refl (subst (λ (y : Ending). EndingAt device y (view device st) (x .port)) (sym drops-there) (serial-ends (view device st) (sound-at device .waiting) device number h)))
               (λ y z. ends-only n c (taken answer) refl refl (ends-elsewhere n (view n st) (view n st) (takeEnding n bytes answer) (drops-elsewhere n y z) refl));
-          changes = λ n i. two-ports (λ j y z. ChangesListed j c (taken answer) (view receiver st) y z) (r .device) device n (repliedPort p message) (x .port) (fits .0) (device-port device (g .named)) i
+          changes = λ b n i. two-ports (λ j y z. ChangesListed j c (taken answer) (view receiver st) y z) (r .device) device n (repliedPort p message) (x .port) (fits .0) (device-port device (g .named)) i
               (listed-at _ (device-in hidppStart bytes (fits .1 .1)) (hidpp-keeps replies))
               (λ f q. unlisted-kept (serial-keeps device h) f (subst (λ (y : Given). serialLists device (view device st) y f ≡ false) is-given (neither (eqb (byte bytes 1) device && takeLists (view device st) answer f) (serialLists device (view device st) (givenBy (view receiver st) (reportFrom hidppStart bytes) bytes) f) q .1)))
               (λ y z. unlisted-kept (keeps-all _ (view n st)));
@@ -307,8 +321,8 @@ module _ (st : Station) (k : Reached st) where
       let s = sound-at device in
       record {
         reached = reached-with st k (positionOf device) (position-within device) (x .port) (request-sound _ _ s h);
-        ends = λ n g. at-port (λ i p q. EndsAt i c (written (x .answer)) p q) device n (x .port) e g (filled-at device byte2 byte3 ticks params offset lent _ (s .waiting .all) h) (λ z. ends-only n c (written (x .answer)) refl (simp z) (nothing-ends n));
-        changes = λ n g. at-port (λ i p q. ChangesListed i c (written (x .answer)) (view receiver st) p q) device n (x .port) e g (listed-at {number = device} _ refl (request-keeps h)) (λ z. unlisted-kept (keeps-all _ (view n st)));
+        ends = λ b n g. at-port (λ i p q. EndsAt i c (written (x .answer)) p q) device n (x .port) e g (filled-at device byte2 byte3 ticks params offset lent _ (s .waiting .all) h) (λ z. ends-only n c (written (x .answer)) refl (simp z) (nothing-ends n));
+        changes = λ b n g. at-port (λ i p q. ChangesListed i c (written (x .answer)) (view receiver st) p q) device n (x .port) e g (listed-at {number = device} _ refl (request-keeps h)) (λ z. unlisted-kept (keeps-all _ (view n st)));
       }
   case-steps (cancel5 e) = idle refl (λ n. refl) nothing-ends [] []
   case-steps (cancelAtPort {device} {byte2} {byte3} {x} e h) =
@@ -316,16 +330,24 @@ module _ (st : Station) (k : Reached st) where
       let s = sound-at device in
       record {
         reached = reached-with st k (positionOf device) (position-within device) (x .port) (cancel-sound _ _ s h);
-        ends = λ n g. at-port (λ i p q. EndsAt i c (cancelled (x .answer)) p q) device n (x .port) e g (ends-only device c (cancelled (x .answer)) refl refl (cancel-ends _ (s .waiting) device h)) (λ z. ends-only n c (cancelled (x .answer)) refl refl (ends-elsewhere n (view n st) (view n st) _ (cancel-apart n device h z) refl));
-        changes = λ n g. at-port (λ i p q. ChangesListed i c (cancelled (x .answer)) (view receiver st) p q) device n (x .port) e g (listed-at {number = device} _ refl (cancel-keeps h)) (λ z. unlisted-kept (keeps-all _ (view n st)));
+        ends = λ b n g. at-port (λ i p q. EndsAt i c (cancelled (x .answer)) p q) device n (x .port) e g (ends-only device c (cancelled (x .answer)) refl refl (cancel-ends _ (s .waiting) device h)) (λ z. ends-only n c (cancelled (x .answer)) refl refl (ends-elsewhere n (view n st) (view n st) _ (cancel-apart n device h z) refl));
+        changes = λ b n g. at-port (λ i p q. ChangesListed i c (cancelled (x .answer)) (view receiver st) p q) device n (x .port) e g (listed-at {number = device} _ refl (cancel-keeps h)) (λ z. unlisted-kept (keeps-all _ (view n st)));
       }
   case-steps tickAllPorts = on-tick
   case-steps (writeOnly {writer} {offset} {lent}) =
       record {
         reached = k;
-        ends = λ n h. ends-only n (write writer offset lent) (written _) refl refl (nothing-ends n);
-        changes = λ n h. unlisted-kept (keeps-all _ (view n st));
+        ends = λ b n h. ends-only n (write writer offset lent) (written _) refl refl (nothing-ends n);
+        changes = λ b n h. unlisted-kept (keeps-all _ (view n st));
       }
+  case-steps (restoreStore text ports h) =
+      record {
+        reached = reached-start (restored text ports (reads-exactly text ports .1 h));
+        ends = λ b. absurd (is-begun text ports h b);
+        changes = λ b. absurd (is-begun text ports h b);
+      }
+  case-steps (restoreOther text h) = idle refl (λ n. refl) nothing-ends text []
+  case-steps (restoreBroken text line h) = idle refl (λ n. refl) nothing-ends text []
 
   steps : (c : Call) → Steps st c (step st c)
   steps c = case-steps (step-case st (all-placed k) c)
@@ -334,37 +356,30 @@ module _ (st : Station) (k : Reached st) where
   next-reached c = steps c .reached
 
   -- what each call makes of each place of each port, and which fields it changes
-  pub call-ends : (c : Call) (n : ℕ) → isPort n ≡ true → EndsAt n c (step st c .answer) (view n st) (view n (step st c .station))
+  pub call-ends : (c : Call) → begins c ≡ false → (n : ℕ) → isPort n ≡ true → EndsAt n c (step st c .answer) (view n st) (view n (step st c .station))
   call-ends c = steps c .ends
 
-  pub call-changes : (c : Call) (n : ℕ) → isPort n ≡ true → ChangesListed n c (step st c .answer) (view receiver st) (view n st) (view n (step st c .station))
+  pub call-changes : (c : Call) → begins c ≡ false → (n : ℕ) → isPort n ≡ true → ChangesListed n c (step st c .answer) (view receiver st) (view n st) (view n (step st c .station))
   call-changes c = steps c .changes
 
 -- a sequence of calls
-pub reached-start : {st : Station} → Start st → Reached st
-unfolding freshStation
-reached-start fresh =
-    record {
-      all = refl;
-      each = λ position h. subst (SoundPort position) (sym (getD-replicate portCount position freshPort noPort h)) (sound-fresh position);
-    }
-
 pub reached-run : (st : Station) (cs : List Call) → Reached st → Reached (run st cs)
 unfolding run
 reached-run st [] k = k
 reached-run st (c ∷ cs) k = reached-run (step st c .station) cs (next-reached st k c)
 
-run-balanced : (n : ℕ) → isPort n ≡ true → (st : Station) (cs : List Call) → Reached st → waitingOn (view n st) + begunIn n (transcript st cs) ≡ endedIn byReply n (transcript st cs) + (endedIn byError n (transcript st cs) + (endedIn byExpiry n (transcript st cs) + (endedIn byCancel n (transcript st cs) + (endedIn byDrop n (transcript st cs) + waitingOn (view n (run st cs))))))
-unfolding run transcript endedIn begunIn
-run-balanced n h st [] k = omega arith
-run-balanced n h st (c ∷ cs) k =
-    omega (arith, run-balanced n h (step st c .station) cs (next-reached st k c), call-ends st k c n h .balance)
+run-balanced : (n : ℕ) → isPort n ≡ true → (st : Station) (cs : List Call) → Unread cs → Reached st → waitingOn (view n st) + begunIn n (transcript st cs) ≡ endedIn byReply n (transcript st cs) + (endedIn byError n (transcript st cs) + (endedIn byExpiry n (transcript st cs) + (endedIn byCancel n (transcript st cs) + (endedIn byDrop n (transcript st cs) + waitingOn (view n (run st cs))))))
+unfolding run transcript endedIn begunIn Unread
+run-balanced n h st [] u k = omega arith
+run-balanced n h st (c ∷ cs) u k =
+    omega (arith, run-balanced n h (step st c .station) cs (u .1) (next-reached st k c), call-ends st k c (u .0) n h .balance)
 
 -- nothing waits at a start
-start-waits : (n : ℕ) → isPort n ≡ true → {st : Station} → Start st → waitingOn (view n st) ≡ 0
-unfolding freshStation freshPort emptyPlace sumOver
-start-waits n h fresh = ap waitingOn (getD-replicate portCount (positionOf n) freshPort noPort (position-within n))
+start-waits : (n : ℕ) {st : Station} → Start st → waitingOn (view n st) ≡ 0
+unfolding freshPort emptyPlace sumOver
+start-waits n {st} begun = ap countWaiting (stored-places (view n st) (start-port begun (positionOf n) (position-within n) .0))
 
-pub accounted : (n : ℕ) → isPort n ≡ true → (st : Station) → Start st → (cs : List Call) → Accounted n (transcript st cs) (view n (run st cs))
-accounted n h st begins cs =
-    omega (arith, run-balanced n h st cs (reached-start begins), start-waits n h begins)
+-- in a sequence, up to the next accepted read
+pub accounted : (n : ℕ) → isPort n ≡ true → (st : Station) → Start st → (cs : List Call) → Unread cs → Accounted n (transcript st cs) (view n (run st cs))
+accounted n h st begun cs none =
+    omega (arith, run-balanced n h st cs none (reached-start begun), start-waits n begun)

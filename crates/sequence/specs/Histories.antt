@@ -12,7 +12,8 @@ use Rattle.station.specs.declared.TakeResult.{TakeResult}
 use Rattle.station.specs.declared.RequestResult.{RequestResult}
 use Rattle.station.specs.declared.CancelResult.{CancelResult}
 use Rattle.station.specs.declared.TickResult.{TickResult}
-use Rattle.station.specs.StationContracts.{takeOutcome, requestOutcome, cancelOutcome, tickOutcome}
+use Rattle.station.specs.declared.RestoreResult.{RestoreResult}
+use Rattle.station.specs.StationContracts.{takeOutcome, requestOutcome, cancelOutcome, tickOutcome, restoreOutcome}
 use Rattle.station.proofs.Station.take.Reads as take-reads
 use Rattle.station.proofs.Station.request.Reads as request-reads
 use Rattle.station.proofs.Station.cancel.Reads as cancel-reads
@@ -21,7 +22,9 @@ use Rattle.station.proofs.Station.switch.Reads as switch-reads
 use Rattle.station.proofs.Station.get_paired.Reads as get-paired-reads
 use Rattle.station.proofs.Station.led.Reads as led-reads
 use Rattle.station.proofs.Station.list.Reads as list-reads
-use Rattle.sequence.specs.Steps.{switch, getPaired, led, list, Call, take, request, cancel, tick, write, Outcome, takeStep, requestStep, cancelStep, tickStep, writeStep, run}
+use Rattle.station.proofs.Station.store.Reads as store-reads
+use Rattle.station.proofs.Station.restore.Reads as restore-reads
+use Rattle.sequence.specs.Steps.{switch, getPaired, led, list, store, Call, take, request, cancel, tick, write, restore, Outcome, takeStep, requestStep, cancelStep, tickStep, writeStep, restoreStep, run}
 use Rattle.sequence.specs.Transcripts.{Entry, entry, transcript}
 
 -- bytes that are lent: a reference r, whose bytes are `now r`
@@ -38,6 +41,8 @@ pub data Ensured (st : Station) : Call → Outcome → Type 0 where
   byGetPaired : (κ : List ℕ) (buffer after : LentBytes) (offset : ℕ) (r : Written) → get-paired-reads.Learnt (κ, tt) (st, (buffer, (offset, tt))) r (st, (after, (offset, tt))) → Ensured st (write getPaired offset (now buffer)) (writeStep st (writtenOutcome r (now after)))
   byLed : (κ : List ℕ) (device : Device) (leds : ℕ) (buffer after : LentBytes) (offset : ℕ) (r : Written) → led-reads.Learnt (κ, tt) (st, (device, (leds, (buffer, (offset, tt))))) r (st, (device, (leds, (after, (offset, tt))))) → Ensured st (write (led (device .0) leds) offset (now buffer)) (writeStep st (writtenOutcome r (now after)))
   byList : (κ : List ℕ) (buffer after : LentBytes) (offset : ℕ) (r : Written) → list-reads.Learnt (κ, tt) (st, (buffer, (offset, tt))) r (st, (after, (offset, tt))) → Ensured st (write list offset (now buffer)) (writeStep st (writtenOutcome r (now after)))
+  byStore : (κ : List ℕ) (buffer after : LentBytes) (offset : ℕ) (r : Written) → store-reads.Learnt (κ, tt) (st, (buffer, (offset, tt))) r (st, (after, (offset, tt))) → Ensured st (write store offset (now buffer)) (writeStep st (writtenOutcome r (now after)))
+  byRestore : (κ : List ℕ) (text : LentBytes) (r : RestoreResult) → restore-reads.Learnt (κ, tt) (st, (text, tt)) r (st, (text, tt)) → Ensured st (restore (now text)) (restoreStep (now text) (restoreOutcome r))
 
 -- a call that the program made, with the outcome that it gave
 pub record Made : Type 0 where

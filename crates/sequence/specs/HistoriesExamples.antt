@@ -15,9 +15,10 @@ use Rattle.station.specs.declared.TakeResult.{TakeResult}
 use Rattle.station.specs.declared.RequestResult.{RequestResult}
 use Rattle.station.specs.declared.CancelResult.{CancelResult}
 use Rattle.station.specs.declared.TickResult.{TickResult}
+use Rattle.station.specs.declared.RestoreResult.{RestoreResult}
 use Rattle.station.specs.Stations.{freshStation}
 use Rattle.station.specs.StationTaking.{takeBy, takeRule}
-use Rattle.station.specs.StationContracts.{takeOutcome, requestOutcome, cancelOutcome, tickOutcome}
+use Rattle.station.specs.StationContracts.{takeOutcome, requestOutcome, cancelOutcome, tickOutcome, restoreOutcome}
 use Rattle.station.proofs.Station.take.Reads as take-reads
 use Rattle.station.proofs.Station.request.Reads as request-reads
 use Rattle.station.proofs.Station.cancel.Reads as cancel-reads
@@ -26,10 +27,12 @@ use Rattle.station.proofs.Station.switch.Reads as switch-reads
 use Rattle.station.proofs.Station.get_paired.Reads as get-paired-reads
 use Rattle.station.proofs.Station.led.Reads as led-reads
 use Rattle.station.proofs.Station.list.Reads as list-reads
-use Rattle.sequence.specs.Steps.{switch, getPaired, led, list, take, request, cancel, tick, write, takeStep, requestStep, cancelStep, tickStep, writeStep}
-use Rattle.sequence.specs.Histories.{LentBytes, Ensured, byTake, byRequest, byCancel, byTick, bySwitch, byGetPaired, byLed, byList, Made, History}
+use Rattle.station.proofs.Station.store.Reads as store-reads
+use Rattle.station.proofs.Station.restore.Reads as restore-reads
+use Rattle.sequence.specs.Steps.{switch, getPaired, led, list, store, take, request, cancel, tick, write, restore, takeStep, requestStep, cancelStep, tickStep, writeStep, restoreStep}
+use Rattle.sequence.specs.Histories.{LentBytes, Ensured, byTake, byRequest, byCancel, byTick, bySwitch, byGetPaired, byLed, byList, byStore, byRestore, Made, History}
 
--- each of the eight calls, with any arguments, result and lent bytes of which its contract holds
+-- each of the ten calls, with any arguments, result and lent bytes of which its contract holds
 record EachCall : Type 0 where
   of-take : (κ : List ℕ) (st : Station) (bytes : LentBytes) (r : TakeResult) → take-reads.Learnt (κ, tt) (st, (bytes, tt)) r (st, (bytes, tt)) → Ensured st (take (now bytes)) (takeStep (now bytes) (takeOutcome r))
   of-request : (κ κ′ : List ℕ) (st : Station) (device : Device) (byte2 : FeatureIndex) (byte3 ticks : ℕ) (params buffer after : LentBytes) (offset : ℕ) (r : RequestResult) → request-reads.Learnt (κ, (κ′, tt)) (st, (device, (byte2, (byte3, (ticks, (params, (buffer, (offset, tt)))))))) r (st, (device, (byte2, (byte3, (ticks, (params, (after, (offset, tt)))))))) → Ensured st (request (device .0) (byte2 .0) byte3 ticks (now params) offset (now buffer)) (requestStep (now params) (requestOutcome r (now after)))
@@ -39,6 +42,8 @@ record EachCall : Type 0 where
   of-get-paired : (κ : List ℕ) (st : Station) (buffer after : LentBytes) (offset : ℕ) (r : Written) → get-paired-reads.Learnt (κ, tt) (st, (buffer, (offset, tt))) r (st, (after, (offset, tt))) → Ensured st (write getPaired offset (now buffer)) (writeStep st (writtenOutcome r (now after)))
   of-led : (κ : List ℕ) (st : Station) (device : Device) (leds : ℕ) (buffer after : LentBytes) (offset : ℕ) (r : Written) → led-reads.Learnt (κ, tt) (st, (device, (leds, (buffer, (offset, tt))))) r (st, (device, (leds, (after, (offset, tt))))) → Ensured st (write (led (device .0) leds) offset (now buffer)) (writeStep st (writtenOutcome r (now after)))
   of-list : (κ : List ℕ) (st : Station) (buffer after : LentBytes) (offset : ℕ) (r : Written) → list-reads.Learnt (κ, tt) (st, (buffer, (offset, tt))) r (st, (after, (offset, tt))) → Ensured st (write list offset (now buffer)) (writeStep st (writtenOutcome r (now after)))
+  of-store : (κ : List ℕ) (st : Station) (buffer after : LentBytes) (offset : ℕ) (r : Written) → store-reads.Learnt (κ, tt) (st, (buffer, (offset, tt))) r (st, (after, (offset, tt))) → Ensured st (write store offset (now buffer)) (writeStep st (writtenOutcome r (now after)))
+  of-restore : (κ : List ℕ) (st : Station) (text : LentBytes) (r : RestoreResult) → restore-reads.Learnt (κ, tt) (st, (text, tt)) r (st, (text, tt)) → Ensured st (restore (now text)) (restoreStep (now text) (restoreOutcome r))
 
 each-call : EachCall
 each-call =
@@ -51,6 +56,8 @@ each-call =
       of-get-paired = λ κ st buffer after offset r e. byGetPaired κ buffer after offset r e;
       of-led = λ κ st device leds buffer after offset r e. byLed κ device leds buffer after offset r e;
       of-list = λ κ st buffer after offset r e. byList κ buffer after offset r e;
+      of-store = λ κ st buffer after offset r e. byStore κ buffer after offset r e;
+      of-restore = λ κ st text r e. byRestore κ text r e;
     }
 
 -- case a: the empty report, refused with 1, on a fresh station

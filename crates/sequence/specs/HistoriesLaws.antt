@@ -6,12 +6,12 @@ use mathlib.Core.List.{List, [], _∷_, _++_, map}
 use Rattle.report.specs.Ports.{isDevice, isPort}
 use Rattle.station.specs.declared.Station.{Station}
 use Rattle.sequence.specs.Starts.{Start}
-use Rattle.sequence.specs.Steps.{Call, Outcome, takeStep, requestStep, cancelStep, tickStep, writeStep, step, run}
+use Rattle.sequence.specs.Steps.{Call, Outcome, takeStep, requestStep, cancelStep, tickStep, writeStep, restoreStep, step, run}
 use Rattle.sequence.specs.Transcripts.{Entry, transcript, callsOf}
 use Rattle.sequence.specs.Remaining.{view, remaining, compared}
 use Rattle.sequence.specs.Independence.{SameOrders}
 use Rattle.sequence.specs.IndependenceLaws as rules
-use Rattle.sequence.specs.Histories.{Made, callOf, Ensured, byTake, byRequest, byCancel, byTick, bySwitch, byGetPaired, byLed, byList, History, stationAfter, made, ByTheRules}
+use Rattle.sequence.specs.Histories.{Made, callOf, Ensured, byTake, byRequest, byCancel, byTick, bySwitch, byGetPaired, byLed, byList, byStore, byRestore, History, stationAfter, made, ByTheRules}
 
 -- what the program's function ensures is the rules' step
 pub met : {st : Station} {c : Call} {o : Outcome} → Ensured st c o → o ≡ step st c
@@ -24,6 +24,8 @@ met {st} (bySwitch κ bits timeout buffer after offset r e) = ap (writeStep st) 
 met {st} (byGetPaired κ buffer after offset r e) = ap (writeStep st) e
 met {st} (byLed κ device leds buffer after offset r e) = ap (writeStep st) e
 met {st} (byList κ buffer after offset r e) = ap (writeStep st) e
+met {st} (byStore κ buffer after offset r e) = ap (writeStep st) e
+met (byRestore κ text r e) = ap (restoreStep _) e
 
 pub history : (st : Station) (ms : List Made) → History st ms → ByTheRules st ms
 unfolding History stationAfter made run transcript

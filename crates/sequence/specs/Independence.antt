@@ -18,6 +18,6 @@ pub record Alone (n : ℕ) (st : Station) (cs : List Call) : Type 0 where
   pub holds : view n (run st cs) ≡ view n (run st (remains n st cs))
   pub returns : compared n (remaining n (transcript st cs)) ≡ compared n (transcript st (remains n st cs))
 
--- two orders: striking out leaves, for each device, the same calls in the same order; its own, the ticks and those for 255 keep one sequence
+-- two orders: striking out leaves, for each device, the same calls in the same order; its own, the ticks, those for 255 and the accepted reads keep one sequence
 abbrev pub SameOrders : Station → List Call → List Call → Type 0
 SameOrders st cs ds = (n : ℕ) → isDevice n ≡ true → remains n st cs ≡ remains n st ds

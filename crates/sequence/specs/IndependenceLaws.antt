@@ -1,4 +1,4 @@
--- Document 01, "Sequences of calls", and document 02, Ask 1: the ports are independent of each other, but for 255, whose calls may give a device's serial. By cases on a call's target, and then over the calls, by any view of the station.
+-- Document 01, "Sequences of calls", and document 02, Asks 1 and 3: the ports are independent of each other, but for 255, whose calls may give a device's serial. By cases on a call's target, and then over the calls, by any view of the station. An accepted read gives every port anew, whatever it was.
 use Prim.Native.Nat.{ℕ, _<_}
 use mathlib.Core.Path.{_≡_, refl, sym, _∙_, ap}
 use mathlib.Core.Bool.{Bool, true, false, cond, _||_, true≢false, false≢true}
@@ -17,18 +17,21 @@ use Rattle.port.specs.Records.{withPlaces}
 use Rattle.port.specs.Places.{sumOver}
 use Rattle.port.specs.Ticks.{tickRule}
 use Rattle.serial.specs.Serials.{parameterFor, Given, noSerial, serialOf, serialRule}
+use Rattle.restore.specs.Restoring.{storeOf, readStore}
+use Rattle.restore.specs.RestoredLaws.{seven-ports}
 use Rattle.station.specs.declared.Station.{Station}
 use Rattle.station.specs.Stations.{portCount, positionOf, numberAt, freshStation, noPort, portAt, portFor, withPort}
 use Rattle.station.specs.StationsLaws.{device-number, position-within}
 use Rattle.station.specs.StationCalls.{tickedPort, endedOn, tickAll}
-use Rattle.sequence.specs.Starts.{Start, fresh}
-use Rattle.sequence.specs.Steps.{Call, CallAnswer, taken, written, cancelled, ticked, Outcome, step, run, Returned, returned, labelOf, target}
+use Rattle.sequence.specs.Starts.{Start, fresh, restored}
+use Rattle.sequence.specs.Steps.{Call, CallAnswer, taken, written, cancelled, ticked, restoring, Outcome, step, run, begins, Returned, returned, labelOf, target}
 use Rattle.sequence.specs.Targets.{Target, none, one, all, isFor}
 use Rattle.sequence.specs.Transcripts.{transcript}
 use Rattle.sequence.specs.Remaining.{view, remaining, dropsIn, dropsFor, withDropsIn, Compared, whole, count, drops, ownReturned, comparedOf, compared}
 use Rattle.sequence.specs.Independence.{remains, Alone, SameOrders}
 use Rattle.sequence.specs.NumbersLaws.{device-port, one-number, number-at}
-use Rattle.sequence.specs.LocalLaws.{outcomeFrom, alsoStep, AtPort, Shape, shape}
+use Rattle.sequence.specs.LocalLaws.{outcomeFrom, alsoStep, AtPort, Shape, shape, begun-alike}
+use Rattle.sequence.specs.StartsLaws.{begun-start}
 
 -- seven ports
 abbrev pub Seven : Station → Type 0
@@ -50,13 +53,13 @@ pub counted-at : (st : Station) (p : ℕ) → getD (tickAll st .ended) p 0 ≡ e
 unfolding tickAll endedOn tickRule sumOver
 counted-at st p = List·getD-map endedOn (st .ports) p noPort
 
--- a way to look at the station, for the port of a number: the induction goes over it. A call that stays gives the next view, and what is compared of its answer, from the view alone; a call that is struck out leaves the view
+-- a way to look at the station, for the port of a number: the induction goes over it. A call that stays, and begins no new sequence, gives the next view, and what is compared of its answer, from the view alone; a call that is struck out leaves the view
 pub record IsView {Seen : Type 0} (n : ℕ) (look : Station → Seen) : Type 0 where
-  pub next : Call → Seen → Seen
-  pub shows : Call → Seen → Compared
-  pub stays : (st : Station) → Seven st → (c : Call) → isFor n (labelOf st c) ≡ true → look (step st c .station) ≡ next c (look st)
-  pub gives : (st : Station) (c : Call) → isFor n (labelOf st c) ≡ true → comparedOf n (labelOf st c) (returned (step st c)) ≡ shows c (look st)
-  pub struck : (st : Station) → Seven st → (c : Call) → isFor n (labelOf st c) ≡ false → look (step st c .station) ≡ look st
+  pub next : (c : Call) → begins c ≡ false → Seen → Seen
+  pub shows : (c : Call) → begins c ≡ false → Seen → Compared
+  pub stays : (st : Station) → Seven st → (c : Call) (b : begins c ≡ false) → isFor n (labelOf st c) ≡ true → look (step st c .station) ≡ next c b (look st)
+  pub gives : (st : Station) (c : Call) (b : begins c ≡ false) → isFor n (labelOf st c) ≡ true → comparedOf n (labelOf st c) (returned (step st c)) ≡ shows c b (look st)
+  pub struck : (st : Station) → Seven st → (c : Call) → begins c ≡ false → isFor n (labelOf st c) ≡ false → look (step st c .station) ≡ look st
 
 -- what the port of a number becomes by a serial that is given
 abbrev beside : ℕ → Given → Port → Port
@@ -170,6 +173,7 @@ drops-out dropped (taken (answers.notice n)) = refl
 drops-out dropped (written a) = refl
 drops-out dropped (cancelled a) = refl
 drops-out dropped (ticked counts) = refl
+drops-out dropped (restoring a) = refl
 
 -- so what is compared of 255's own calls does not show it, and no other port's own call gives a serial
 own-same : (n number : ℕ) → number ≡ n → (st next : Station) (g : Given) (r : Returned) → ((device serial : ℕ) → g ≡ serialOf device serial → number ≡ receiver) → ownReturned n (returned (alsoStep st g (outcomeFrom r next))) ≡ ownReturned n r
@@ -258,11 +262,11 @@ module _ (n : ℕ) (port : isPort n ≡ true) (c : Call) (st : Station) where
 pub port-view : (n : ℕ) → isPort n ≡ true → IsView n (look n)
 port-view n h =
     record {
-      next = λ c. next-by n c (target c) (shape c);
-      shows = λ c. shows-by n c (target c) (shape c);
-      stays = λ st seven c e. stays-by n h c st (target c) (shape c) seven e;
-      gives = λ st c e. gives-by n h c st (target c) (shape c) e;
-      struck = λ st seven c e. struck-by n h c st (target c) (shape c) seven e;
+      next = λ c b. next-by n c (target c) (shape c b);
+      shows = λ c b. shows-by n c (target c) (shape c b);
+      stays = λ st seven c b e. stays-by n h c st (target c) (shape c b) seven e;
+      gives = λ st c b e. gives-by n h c st (target c) (shape c b) e;
+      struck = λ st seven c b e. struck-by n h c st (target c) (shape c b) seven e;
     }
 
 seven : (c : Call) (st : Station) (t : Target) → Shape c t → Seven st → Seven (step st c .station)
@@ -277,8 +281,17 @@ seven c st (one number) s n =
         length-set (set (st .ports) (positionOf number) (s .next (portFor st number))) (positionOf device) (serialRule (portFor st device) serial .port) ∙ length-set (st .ports) (positionOf number) (s .next (portFor st number)) ∙ n
 seven c st all s n = ap (λ (o : Outcome). length (o .station .ports)) (s st) ∙ length-map (st .ports) tickedPort ∙ n
 
+pub seven-start : {st : Station} → Start st → Seven st
+unfolding freshStation
+seven-start fresh = refl
+seven-start (restored text ports e) = seven-ports text ports e
+
 pub seven-step : (c : Call) (st : Station) → Seven st → Seven (step st c .station)
-seven-step c st = seven c st (target c) (shape c)
+seven-step c st s = go (begins c) refl
+  where
+    go : (b : Bool) → begins c ≡ b → Seven (step st c .station)
+    go true e = seven-start (begun-start c st e)
+    go false e = seven c st (target c) (shape c e) s
 
 pub seven-run : (cs : List Call) (st : Station) → Seven st → Seven (run st cs)
 unfolding run
@@ -294,19 +307,23 @@ module _ {Seen : Type 0} (n : ℕ) (look : Station → Seen) (v : IsView n look)
   pub same : (cs : List Call) (st other : Station) → Seven st → Seven other → look st ≡ look other → Same st other cs
   unfolding run transcript remaining
   same [] st other s t e = (e, refl)
-  same (c ∷ cs) st other s t e = go (same cs) (isFor n (labelOf st c)) refl
+  same (c ∷ cs) st other s t e = by (same cs) (begins c) refl
     where
-      go : ((x y : Station) → Seven x → Seven y → look x ≡ look y → Same x y cs) → (b : Bool) → isFor n (labelOf st c) ≡ b → Same st other (c ∷ cs)
-      go rest true q =
-          let r = rest (step st c .station) (step other c .station) (seven-step c st s) (seven-step c other t) (v .stays st s c q ∙ ap (v .next c) e ∙ sym (v .stays other t c q)) in
-          let here : comparedOf n (labelOf st c) (returned (step st c)) ≡ comparedOf n (labelOf other c) (returned (step other c)) = v .gives st c q ∙ ap (v .shows c) e ∙ sym (v .gives other c q) in
-          simp q (r .0, cc (here, r .1))
-      go rest false q =
-          simp q (rest (step st c .station) other (seven-step c st s) t (v .struck st s c q ∙ e))
+      go : ((x y : Station) → Seven x → Seven y → look x ≡ look y → Same x y cs) → begins c ≡ false → (b : Bool) → isFor n (labelOf st c) ≡ b → Same st other (c ∷ cs)
+      go rest goes-on true q =
+          let r = rest (step st c .station) (step other c .station) (seven-step c st s) (seven-step c other t) (v .stays st s c goes-on q ∙ ap (v .next c goes-on) e ∙ sym (v .stays other t c goes-on q)) in
+          let here : comparedOf n (labelOf st c) (returned (step st c)) ≡ comparedOf n (labelOf other c) (returned (step other c)) = v .gives st c goes-on q ∙ ap (v .shows c goes-on) e ∙ sym (v .gives other c goes-on q) in
+          simp (goes-on, q) (r .0, cc (here, r .1))
+      go rest goes-on false q =
+          simp (goes-on, q) (rest (step st c .station) other (seven-step c st s) t (v .struck st s c goes-on q ∙ e))
 
-pub seven-start : {st : Station} → Start st → Seven st
-unfolding freshStation
-seven-start fresh = refl
+      by : ((x y : Station) → Seven x → Seven y → look x ≡ look y → Same x y cs) → (b : Bool) → begins c ≡ b → Same st other (c ∷ cs)
+      by rest true anew =
+          let alike : step st c ≡ step other c = begun-alike c anew st other in
+          let r = rest (step st c .station) (step other c .station) (seven-step c st s) (seven-step c other t) (ap (λ (o : Outcome). look (o .station)) alike) in
+          let here : comparedOf n (labelOf st c) (returned (step st c)) ≡ comparedOf n (labelOf other c) (returned (step other c)) = ap (λ (o : Outcome). comparedOf n (target c) (returned o)) alike in
+          simp anew (r .0, cc (here, r .1))
+      by rest false goes-on = go rest goes-on (isFor n (labelOf st c)) refl
 
 pub alone : (n : ℕ) → isPort n ≡ true → (st : Station) → Start st → (cs : List Call) → Alone n st cs
 alone n h st begins cs =

@@ -6,6 +6,7 @@ pub mod Readings
 pub mod ReadingsLaws
 pub mod SentenceLaws
 pub mod Starts
+pub mod StartsLaws
 pub mod Transcripts
 pub mod Remaining
 pub mod LocalLaws
@@ -16,4 +17,6 @@ pub mod Stays
 pub mod StaysLaws
 pub mod Histories
 pub mod HistoriesLaws
+pub mod Sequences
+pub mod SequencesLaws
 pub mod HistoriesExamples

@@ -1,7 +1,7 @@
--- Document 01, "Sequences of calls", and document 02, Ask 1: a call acts at its port alone, and a reply on 255 that gives a device's serial at that device's too. Laws of one step, by the call's target.
+-- Document 01, "Sequences of calls", and document 02, Asks 1 and 3: a call that begins no new sequence acts at its port alone, and a reply on 255 that gives a device's serial at that device's too. Laws of one step, by the call's target.
 use Prim.Native.Nat.{ℕ}
 use mathlib.Core.Path.{_≡_, refl, sym, _∙_, ap}
-use mathlib.Core.Bool.{Bool, true, false, cond}
+use mathlib.Core.Bool.{Bool, true, false, cond, true≢false}
 use mathlib.Core.List.{List, []}
 use Rattle.report.specs.Ports.{receiver, isDevice, isPort}
 use Rattle.report.specs.Sizes.{byte}
@@ -14,12 +14,13 @@ use Rattle.serial.specs.Serials.{parameterFor, Given, noSerial, serialOf, given
 use Rattle.serial.specs.GivingLaws.{no-serial, given-exactly}
 use Rattle.dj.specs.DjTaking.{takeDj}
 use Rattle.request.specs.Requesting.{requestAt}
+use Rattle.restore.specs.Restoring.{StoreRead, storeOf, ofOther, brokenAt, readStore, restoredBy, restorePorts}
 use Rattle.station.specs.declared.Station.{Station}
 use Rattle.station.specs.Stations.{positionOf, portFor, withPort}
 use Rattle.station.specs.StationsLaws.{same-port}
 use Rattle.station.specs.StationTaking.{TakeOutcome, storedAt, alsoAt, takeBy, takeRule}
-use Rattle.station.specs.StationCalls.{requestRule, cancelRule, tickAll}
-use Rattle.sequence.specs.Steps.{Writer, switch, getPaired, led, list, Call, take, request, cancel, tick, write, taken, written, cancelled, Outcome, takeStep, tickStep, writeStep, writerRule, step, Returned, writerRow, target}
+use Rattle.station.specs.StationCalls.{RestoreOutcome, restoredTo, requestRule, cancelRule, tickAll, restoreRule}
+use Rattle.sequence.specs.Steps.{Writer, switch, getPaired, led, list, store, Call, take, request, cancel, tick, write, restore, taken, written, cancelled, Outcome, takeStep, tickStep, writeStep, restoreStep, writerRule, step, Returned, writerRow, target, isStore, begins}
 use Rattle.sequence.specs.Targets.{Target, none, one, all, readTarget}
 use Rattle.sequence.specs.Remaining.{withDropsIn}
 use Rattle.sequence.specs.Readings.{ReadFits}
@@ -118,12 +119,39 @@ write-shape (led device leds) offset lent = go (isDevice device) refl
     go true e = written-at (led device leds) offset lent device _ (simp e) (λ st. refl)
     go false e = λ st. refl
 write-shape list offset lent = λ st. refl
+write-shape store offset lent = λ st. refl
 
-pub shape : (c : Call) → Shape c (target c)
-unfolding step target
-shape (take bytes) = take-shape bytes (reading.readRule bytes) refl (read-fits bytes)
-shape (request device byte2 byte3 ticks params offset lent) =
+-- a read that is refused leaves the station
+restore-shape : (text : List ℕ) → isStore (readStore text) ≡ false → Shape (restore text) none
+unfolding step restoreRule restorePorts
+restore-shape text e st = go (readStore text) e
+  where
+    go : (x : StoreRead) → isStore x ≡ false → restoredTo (restoredBy (st .ports) x) .station ≡ st
+    go (storeOf ports) q = absurd (true≢false q)
+    go ofOther q = refl
+    go (brokenAt line) q = refl
+
+-- one that is accepted gives the same, whatever station it is made on
+pub begun-alike : (c : Call) → begins c ≡ true → (st other : Station) → step st c ≡ step other c
+unfolding begins step restoreRule restorePorts
+begun-alike (take bytes) e st other = absurd (true≢false (sym e))
+begun-alike (request device byte2 byte3 ticks params offset lent) e st other = absurd (true≢false (sym e))
+begun-alike (cancel device byte2 byte3) e st other = absurd (true≢false (sym e))
+begun-alike tick e st other = absurd (true≢false (sym e))
+begun-alike (write writer offset lent) e st other = absurd (true≢false (sym e))
+begun-alike (restore text) e st other = go (readStore text) e
+  where
+    go : (x : StoreRead) → isStore x ≡ true → restoreStep text (restoredTo (restoredBy (st .ports) x)) ≡ restoreStep text (restoredTo (restoredBy (other .ports) x))
+    go (storeOf ports) q = refl
+    go ofOther q = absurd (true≢false (sym q))
+    go (brokenAt line) q = absurd (true≢false (sym q))
+
+pub shape : (c : Call) → begins c ≡ false → Shape c (target c)
+unfolding step target begins
+shape (take bytes) e = take-shape bytes (reading.readRule bytes) refl (read-fits bytes)
+shape (request device byte2 byte3 ticks params offset lent) e =
     request-shape device byte2 byte3 ticks params offset lent (isPort device) refl
-shape (cancel device byte2 byte3) = cancel-shape device byte2 byte3 (isPort device) refl
-shape tick = λ st. refl
-shape (write writer offset lent) = write-shape writer offset lent
+shape (cancel device byte2 byte3) e = cancel-shape device byte2 byte3 (isPort device) refl
+shape tick e = λ st. refl
+shape (write writer offset lent) e = write-shape writer offset lent
+shape (restore text) e = restore-shape text e

@@ -60,10 +60,6 @@ receiver-kind device kind has at = go (leb kind 0x42) refl
         absurd (omega (arith, at, device-number device named .0, device-number device named .1, device-position device named .0))
     go false e = leb-false kind 0x42 e
 
--- in a range
-pub in-range : (lo n hi : ℕ) → inRange lo n hi ≡ true → (lo ≤ n) × (n ≤ hi)
-in-range lo n hi e = let h = both (leb lo n) (leb n hi) e in (leb-true lo n (h .0), leb-true n hi (h .1))
-
 -- not in the range, and not below it
 pub above : (lo n hi : ℕ) → inRange lo n hi ≡ false → lo ≤ n → hi < n
 above lo n hi e h = leb-false n hi (simp (le-leb lo n h) at e)

@@ -1,6 +1,6 @@
--- Document 01, "Sequences of calls", and document 02, Ask 1: striking out, and what is compared.
+-- Document 01, "Sequences of calls", and document 02, Asks 1 and 3: striking out, and what is compared.
 use Prim.Native.Nat.{ℕ}
-use mathlib.Core.Bool.{cond}
+use mathlib.Core.Bool.{Bool, cond, _||_}
 use mathlib.Core.List.{List, [], _∷_, map}
 use lib.ListN.{getD}
 use lib.Dec.{eqb}
@@ -12,7 +12,7 @@ use Rattle.station.specs.declared.Station.{Station}
 use Rattle.station.specs.Stations.{positionOf, portFor}
 use Rattle.station.specs.StationTaking.{withDrops}
 use Rattle.serial.specs.Serials.{parameterFor}
-use Rattle.sequence.specs.Steps.{CallAnswer, taken, written, cancelled, ticked, Returned}
+use Rattle.sequence.specs.Steps.{CallAnswer, taken, written, cancelled, ticked, restoring, Returned, begins}
 use Rattle.sequence.specs.Targets.{Target, none, one, all, isFor}
 use Rattle.sequence.specs.Transcripts.{Entry}
 
@@ -23,10 +23,14 @@ View = Port
 abbrev pub view : ℕ → Station → View
 view n st = portFor st n
 
--- strike out every call for another device or for none; keep the ticks, and the calls for 255
+-- whether a call is left for the port of a number: where it stays for it, or begins a new sequence
+abbrev pub isLeft : ℕ → Entry → Bool
+isLeft n e = begins (e .call) || isFor n (e .label)
+
+-- strike out every call for another device or for none; keep the ticks, and the calls for 255. A sequence ends where an accepted read begins the next one, so that read is kept as well
 unfoldable pub remaining : ℕ → List Entry → List Entry
 remaining n [] = []
-remaining n (e ∷ es) = cond (isFor n (e .label)) (e ∷ remaining n es) (remaining n es)
+remaining n (e ∷ es) = cond (isLeft n e) (e ∷ remaining n es) (remaining n es)
 
 -- a port's count in the answer to a tick
 abbrev pub countFor : ℕ → CallAnswer → ℕ
@@ -34,6 +38,7 @@ countFor n (taken a) = 0
 countFor n (written a) = 0
 countFor n (cancelled a) = 0
 countFor n (ticked counts) = getD counts (positionOf n) 0
+countFor n (restoring a) = 0
 
 -- the drop count of a reply
 abbrev pub takenDrops : answers.Answer → ℕ
@@ -51,6 +56,7 @@ dropsIn (taken a) = takenDrops a
 dropsIn (written a) = 0
 dropsIn (cancelled a) = 0
 dropsIn (ticked counts) = 0
+dropsIn (restoring a) = 0
 
 -- a device's drop count: the one whose number the report's own first parameter gives has it, every other device has 0
 abbrev pub dropsFor : ℕ → Returned → ℕ
@@ -62,8 +68,9 @@ withDropsIn dropped (taken a) = taken (withDrops dropped a)
 withDropsIn dropped (written a) = written a
 withDropsIn dropped (cancelled a) = cancelled a
 withDropsIn dropped (ticked counts) = ticked counts
+withDropsIn dropped (restoring a) = restoring a
 
--- what is compared of a call: of a port's own, its answer and every lent byte; of a call for all, which is a tick, that port's count; of a call for 255 where a device is compared, that device's drop count and every lent byte
+-- what is compared of a call: of a port's own, its answer and every lent byte; of a call for all, which is a tick, that port's count; of a call for 255 where a device is compared, that device's drop count and every lent byte; of a call for none, which is left where it begins a new sequence, its answer and every lent byte
 pub data Compared : Type 0 where
   whole : Returned → Compared
   count : ℕ → Compared

@@ -1,4 +1,4 @@
--- Document 01, "What the console part does": which port a call is for, in the document's words, by the call's answer. A call is for the port it names; switch and get-paired are for 255. Takes refused with 1 to 6, other calls refused with 5, empty-list notices and the listing are for none. A tick stays for every port.
+-- Document 01, "What the console part does": which port a call is for, in the document's words, by the call's answer. A call is for the port it names; switch and get-paired are for 255. Takes refused with 1 to 6, other calls refused with 5, empty-list notices and the listing are for none. A tick stays for every port. Document 02, Ask 3: the store calls are for none.
 use Prim.Native.Nat.{ℕ}
 use mathlib.Core.Path.{_≡_}
 use mathlib.Core.Bool.{Bool, true, false, cond}
@@ -9,7 +9,7 @@ use Rattle.frame.specs.Writing as writing
 use Rattle.port.specs.Answers as answers
 use Rattle.port.specs.Waiting as waiting
 use Rattle.station.specs.declared.Station.{Station}
-use Rattle.sequence.specs.Steps.{Writer, switch, getPaired, led, list, Call, take, request, cancel, tick, write, CallAnswer, taken, written, cancelled, ticked, step, target}
+use Rattle.sequence.specs.Steps.{Writer, switch, getPaired, led, list, store, Call, take, request, cancel, tick, write, restore, CallAnswer, taken, written, cancelled, ticked, restoring, step, target}
 use Rattle.sequence.specs.Targets.{Target, none, one, all}
 
 -- an empty-list notice
@@ -45,6 +45,7 @@ isForNone (taken a) = takeForNone a
 isForNone (written a) = writeForNone a
 isForNone (cancelled a) = cancelForNone a
 isForNone (ticked counts) = false
+isForNone (restoring a) = true
 
 -- for the port that the call names, unless the answer is one of those
 abbrev pub forNamed : ℕ → CallAnswer → Target
@@ -55,6 +56,7 @@ writerSentence (switch bits timeout) answer = forNamed receiver answer
 writerSentence getPaired answer = forNamed receiver answer
 writerSentence (led device leds) answer = forNamed device answer
 writerSentence list answer = none
+writerSentence store answer = none
 
 abbrev pub sentence : Call → CallAnswer → Target
 sentence (take bytes) answer = forNamed (byte bytes 1) answer
@@ -62,6 +64,7 @@ sentence (request device byte2 byte3 ticks params offset lent) answer = forNamed
 sentence (cancel device byte2 byte3) answer = forNamed device answer
 sentence tick answer = all
 sentence (write writer offset lent) answer = writerSentence writer answer
+sentence (restore text) answer = none
 
 -- on any station
 abbrev pub ByAnswer : Station → Call → Type 0

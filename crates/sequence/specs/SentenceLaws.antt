@@ -21,16 +21,18 @@ use Rattle.serial.specs.Serials.{Given, noSerial, serialOf, givenBy, serialRule
 use Rattle.dj.specs.DjTaking.{isDeclared, wpidOf, isPairedWith, radioRule, unpairedRule, pairedRule, linkRule, otherRule, takeDj}
 use Rattle.request.specs.Requesting.{isForbidden, RequestAt, refusedAt, waitingRequest, requestBy, requestAt}
 use Rattle.listing.specs.Listing.{listingRule}
+use Rattle.store.specs.Stores.{storeRule}
+use Rattle.restore.specs.Restoring.{StoreRead, storeOf, ofOther, brokenAt, readStore, restoredBy, restorePorts}
 use Rattle.station.specs.declared.Station.{Station}
 use Rattle.station.specs.Stations.{positionOf, portAt, portFor, withPort}
 use Rattle.station.specs.StationsLaws.{same-port}
 use Rattle.station.specs.StationTaking.{TakeOutcome, storedAt, withDrops, alsoAt, takeBy, takeRule}
-use Rattle.station.specs.StationCalls.{requestRule, cancelRule}
+use Rattle.station.specs.StationCalls.{restoredTo, requestRule, cancelRule, restoreRule}
 use Rattle.sequence.specs.Steps as steps
-use Rattle.sequence.specs.Steps.{Writer, switch, getPaired, led, list, Call, take, request, cancel, tick, write, Outcome, takeStep, requestStep, cancelStep, writeStep, writerRule, step, writerRow, target}
+use Rattle.sequence.specs.Steps.{Writer, switch, getPaired, led, list, store, Call, take, request, cancel, tick, write, restore, Outcome, takeStep, requestStep, cancelStep, writeStep, restoreStep, writerRule, step, writerRow, target}
 use Rattle.sequence.specs.Targets.{Target, none, one, readTarget}
 use Rattle.sequence.specs.Sentence.{takeForNone, writeForNone, cancelForNone, forNamed, writerSentence, sentence, ByAnswer}
-use Rattle.sequence.specs.Refused.{takeRefused, writeRefused, cancelRefused, isRefusal, Unchanged}
+use Rattle.sequence.specs.Refused.{takeRefused, writeRefused, cancelRefused, restoreRefused, isRefusal, Unchanged}
 use Rattle.sequence.specs.Readings.{ReadFits}
 use Rattle.sequence.specs.ReadingsLaws.{read-fits}
 
@@ -226,7 +228,7 @@ module _ (st : Station) where
         simp e (record { says = refl; kept = λ r. record { station = refl; read = refl; lent = refl } })
 
     write-kind : (writer : Writer) → Kind st (write writer offset lent) (writerRow writer .target) (writeStep st (writerRule st writer offset lent))
-    unfolding writing.getPairedRule listingRule
+    unfolding writing.getPairedRule listingRule storeRule
     write-kind (switch bits timeout) =
         written (switch bits timeout) receiver (switch-kind lent bits timeout offset) refl
     write-kind getPaired = written getPaired receiver (frame-kind lent writing.getPairedFrame offset) refl
@@ -236,15 +238,27 @@ module _ (st : Station) where
           says = refl;
           kept = λ r. record { station = refl; read = refl; lent = write-kept lent (frame-kind lent _ offset) r };
         }
+    write-kind store =
+        record {
+          says = refl;
+          kept = λ r. record { station = refl; read = refl; lent = write-kept lent (frame-kind lent _ offset) r };
+        }
+
+  -- a read of a store: a refusal leaves the station
+  restore-kind : (text : List ℕ) (x : StoreRead) → restoreRefused (restoredBy (st .ports) x .answer) ≡ true → Unchanged st (restore text) (restoreStep text (restoredTo (restoredBy (st .ports) x)))
+  restore-kind text (storeOf ports) r = absurd (false≢true r)
+  restore-kind text ofOther r = record { station = refl; read = refl; lent = refl }
+  restore-kind text (brokenAt line) r = record { station = refl; read = refl; lent = refl }
 
   kind : (c : Call) → Kind st c (target c) (step st c)
-  unfolding target step takeRule
+  unfolding target step takeRule restoreRule restorePorts
   kind (take bytes) = take-kind bytes (readRule bytes) (read-fits bytes)
   kind (request device byte2 byte3 ticks params offset lent) =
       request-kind-on device byte2 byte3 ticks params offset lent (isPort device) refl
   kind (cancel device byte2 byte3) = cancel-kind-on device byte2 byte3 (isPort device) refl
   kind tick = record { says = refl; kept = λ r. absurd (false≢true r) }
   kind (write writer offset lent) = write-kind offset lent writer
+  kind (restore text) = record { says = refl; kept = restore-kind text (readStore text) }
 
   pub by-answer : (c : Call) → ByAnswer st c
   by-answer c = kind c .says

@@ -1,14 +1,14 @@
--- Document 02, Ask 1, in its words: which calls stay for a port, what is compared of them, and which two orders are compared.
+-- Document 02, Asks 1 and 3, in its words: which calls stay for a port, what is compared of them, and which two orders are compared.
 use Prim.Native.Nat.{ℕ, _+_, _-_}
 use mathlib.Core.Path.{_≡_}
-use mathlib.Core.Bool.{true}
+use mathlib.Core.Bool.{true, false}
 use mathlib.Core.List.{List, [], _∷_}
 use Rattle.report.specs.Ports.{isDevice}
 use Rattle.report.specs.Sizes.{byte}
 use Rattle.port.specs.Answers.{About, reply}
 use Rattle.station.specs.declared.Station.{Station}
 use Rattle.sequence.specs.Starts.{Start}
-use Rattle.sequence.specs.Steps.{Call, CallAnswer, taken, Returned, run}
+use Rattle.sequence.specs.Steps.{Call, CallAnswer, taken, Returned, begins, run}
 use Rattle.sequence.specs.Targets.{Target, one, all}
 use Rattle.sequence.specs.Transcripts.{Entry, transcript}
 use Rattle.sequence.specs.Remaining.{comparedOf}
@@ -19,11 +19,12 @@ pub data Stays (n : ℕ) : Target → Type 0 where
   tickCall : Stays n all
   receiverCall : Stays n (one 255)
 
--- the calls of a run that stay for a port, in their order
+-- the calls of a run that stay for a port, in their order, and the accepted reads, each of which begins a new sequence for every port
 pub data Kept (n : ℕ) : List Entry → List Call → Type 0 where
   keptNone : Kept n [] []
   keptCall : {e : Entry} {es : List Entry} {cs : List Call} → Stays n (e .label) → Kept n es cs → Kept n (e ∷ es) (e .call ∷ cs)
-  struckCall : {e : Entry} {es : List Entry} {cs : List Call} → ¬ Stays n (e .label) → Kept n es cs → Kept n (e ∷ es) cs
+  begunCall : {e : Entry} {es : List Entry} {cs : List Call} → begins (e .call) ≡ true → Kept n es cs → Kept n (e ∷ es) (e .call ∷ cs)
+  struckCall : {e : Entry} {es : List Entry} {cs : List Call} → ¬ Stays n (e .label) → begins (e .call) ≡ false → Kept n es cs → Kept n (e ∷ es) cs
 
 -- the same answer, or the same reply with any drop counts
 pub data SameButDrops : CallAnswer → CallAnswer → Type 0 where
@@ -53,7 +54,7 @@ abbrev pub ComparesDrops : Type 0
 ComparesDrops =
     (n : ℕ) → isDevice n ≡ true → (r q : Returned) → comparedOf n (one 255) r ≡ comparedOf n (one 255) q → ((x y : ℕ) → Drops n r x → Drops n q y → x ≡ y) × SameLent r q
 
--- two orders in which each device's calls, the ticks and all calls for 255 keep one sequence end in the same station
+-- two orders in which each device's calls, the ticks, all calls for 255 and the accepted reads keep one sequence end in the same station
 abbrev pub OrdersAgree : Type 0
 OrdersAgree =
     (st : Station) → Start st → (cs ds : List Call) → ((n : ℕ) → isDevice n ≡ true → (ks : List Call) × (Kept n (transcript st cs) ks × Kept n (transcript st ds) ks)) → run st cs ≡ run st ds

@@ -1,4 +1,4 @@
--- Document 02, Ask 1: what stays, what is compared and which orders agree is what its words say.
+-- Document 02, Asks 1 and 3: what stays, what is compared and which orders agree is what its words say.
 use Prim.Native.Nat.{ℕ, _+_, _-_}
 use mathlib.Core.Path.{_≡_, refl, sym, _∙_, ap, subst}
 use mathlib.Core.Logic.{_↔_}
@@ -12,12 +12,12 @@ use Rattle.report.specs.Sizes.{byte}
 use Rattle.port.specs.Answers as answers
 use Rattle.station.specs.StationsLaws.{device-number}
 use Rattle.serial.specs.Serials.{parameterFor}
-use Rattle.sequence.specs.Steps.{Call, CallAnswer, taken, written, cancelled, ticked, Returned}
+use Rattle.sequence.specs.Steps.{Call, CallAnswer, taken, written, cancelled, ticked, restoring, Returned, begins}
 use Rattle.sequence.specs.Targets.{Target, none, one, all, isFor}
 use Rattle.sequence.specs.Transcripts.{Entry, callsOf}
-use Rattle.sequence.specs.Remaining.{remaining, withDropsIn, dropsIn, dropsFor, whole, drops, ownReturned}
+use Rattle.sequence.specs.Remaining.{isLeft, remaining, withDropsIn, dropsIn, dropsFor, whole, drops, ownReturned}
 use Rattle.sequence.specs.IndependenceLaws.{orders}
-use Rattle.sequence.specs.Stays.{Stays, ownCall, tickCall, receiverCall, Kept, keptNone, keptCall, struckCall, SameButDrops, sameAnswer, sameReply, Drops, ofReply, ofOther, ComparesOwn, ComparesReceiver, ComparesDrops, OrdersAgree}
+use Rattle.sequence.specs.Stays.{Stays, ownCall, tickCall, receiverCall, Kept, keptNone, keptCall, begunCall, struckCall, SameButDrops, sameAnswer, sameReply, Drops, ofReply, ofOther, ComparesOwn, ComparesReceiver, ComparesDrops, OrdersAgree}
 
 -- exactly those calls stay
 or-true : (b : Bool) → (b || true) ≡ true
@@ -45,22 +45,29 @@ stays-exactly n t = (to t, is-for n t)
 module _ (n : ℕ) (e : Entry) (es : List Entry) where
   pub left-in : Stays n (e .label) → remaining n (e ∷ es) ≡ e ∷ remaining n es
   unfolding remaining
-  left-in s = simp (is-for n (e .label) s)
+  left-in s =
+      ap (λ (b : Bool). cond (begins (e .call) || b) (e ∷ remaining n es) (remaining n es)) (is-for n (e .label) s) ∙ ap (λ (b : Bool). cond b (e ∷ remaining n es) (remaining n es)) (or-true (begins (e .call)))
 
-  pub struck-out : ¬ Stays n (e .label) → remaining n (e ∷ es) ≡ remaining n es
+  pub begun-left-in : begins (e .call) ≡ true → remaining n (e ∷ es) ≡ e ∷ remaining n es
   unfolding remaining
-  struck-out s = go (isFor n (e .label)) refl
+  begun-left-in anew = simp anew
+
+  pub struck-out : ¬ Stays n (e .label) → begins (e .call) ≡ false → remaining n (e ∷ es) ≡ remaining n es
+  unfolding remaining
+  struck-out s goes-on = go (isFor n (e .label)) refl
     where
-      go : (b : Bool) → isFor n (e .label) ≡ b → cond (isFor n (e .label)) (e ∷ remaining n es) (remaining n es) ≡ remaining n es
+      go : (b : Bool) → isFor n (e .label) ≡ b → cond (isLeft n e) (e ∷ remaining n es) (remaining n es) ≡ remaining n es
       go true q = absurd (s (stays-exactly n (e .label) .0 q))
-      go false q = simp q
+      go false q = simp (goes-on, q)
 
 pub kept-calls : {n : ℕ} {es : List Entry} {cs : List Call} → Kept n es cs → callsOf (remaining n es) ≡ cs
 unfolding remaining
 kept-calls keptNone = refl
 kept-calls {n} (keptCall {e} {es} s k) =
     ap callsOf (left-in n e es s) ∙ ap (λ (cs : List Call). e .call ∷ cs) (kept-calls k)
-kept-calls {n} (struckCall {e} {es} s k) = ap callsOf (struck-out n e es s) ∙ kept-calls k
+kept-calls {n} (begunCall {e} {es} anew k) =
+    ap callsOf (begun-left-in n e es anew) ∙ ap (λ (cs : List Call). e .call ∷ cs) (kept-calls k)
+kept-calls {n} (struckCall {e} {es} s goes-on k) = ap callsOf (struck-out n e es s goes-on) ∙ kept-calls k
 
 pub orders-agree : OrdersAgree
 orders-agree st begins cs ds h =
@@ -94,6 +101,7 @@ shown (taken (answers.notice n)) = whole-answer refl
 shown (written a) = whole-answer refl
 shown (cancelled a) = whole-answer refl
 shown (ticked counts) = whole-answer refl
+shown (restoring a) = whole-answer refl
 
 same-about : {m n : ℕ} {a b : answers.About} → taken (answers.reply m a) ≡ taken (answers.reply n b) → a ≡ b
 same-about e = cc e
@@ -128,6 +136,7 @@ none-dropped (taken (answers.notice n)) h = refl
 none-dropped (written a) h = refl
 none-dropped (cancelled a) h = refl
 none-dropped (ticked counts) h = refl
+none-dropped (restoring a) h = refl
 
 drops-so : (n : ℕ) (r : Returned) {x : ℕ} → Drops n r x → dropsFor n r ≡ x
 drops-so n r (ofReply x a e h) = cc (eq-eqb (byte (r .read) 4) (parameterFor n) h, e)

@@ -1,6 +1,6 @@
--- Document 01, "What the console part does" and "Sequences of calls": the table of calls, one step of the rules, and their run.
+-- Document 01, "What the console part does" and "Sequences of calls", and document 02, Ask 3 (store and restore): the table of calls, one step of the rules, and their run.
 use Prim.Native.Nat.{ℕ}
-use mathlib.Core.Bool.{cond}
+use mathlib.Core.Bool.{Bool, true, false, cond}
 use mathlib.Core.List.{List, [], _∷_}
 use Rattle.report.specs.Ports.{receiver, isDevice, isPort}
 use Rattle.report.specs.Reading.{readRule}
@@ -9,16 +9,19 @@ use Rattle.port.specs.Answers as answers
 use Rattle.port.specs.Waiting as waiting
 use Rattle.station.specs.declared.Station.{Station}
 use Rattle.station.specs.StationTaking.{TakeOutcome, takeRule}
-use Rattle.station.specs.StationCalls.{RequestOutcome, requestRule, CancelOutcome, cancelRule, TickOutcome, tickAll}
+use Rattle.station.specs.StationCalls.{RequestOutcome, requestRule, CancelOutcome, cancelRule, TickOutcome, tickAll, RestoreOutcome, restoreRule}
 use Rattle.listing.specs.Listing.{listingRule}
+use Rattle.store.specs.Stores.{storeRule}
+use Rattle.restore.specs.Restoring.{RestoreAnswer, StoreRead, storeOf, ofOther, brokenAt, readStore}
 use Rattle.sequence.specs.Targets.{Target, none, one, all, readTarget}
 
--- the calls that write a frame or the listing and touch no record, each with its own arguments
+-- the calls that write a frame, the listing or the store and touch no record, each with its own arguments
 pub data Writer : Type 0 where
   switch : (bits timeout : ℕ) → Writer
   getPaired : Writer
   led : (device leds : ℕ) → Writer
   list : Writer
+  store : Writer
 
 -- a call with all its arguments and lent bytes
 pub data Call : Type 0 where
@@ -27,6 +30,7 @@ pub data Call : Type 0 where
   cancel : (device byte2 byte3 : ℕ) → Call
   tick : Call
   write : (writer : Writer) (offset : ℕ) (lent : List ℕ) → Call
+  restore : (text : List ℕ) → Call
 
 -- the answer or refusal number of a call
 pub data CallAnswer : Type 0 where
@@ -34,6 +38,7 @@ pub data CallAnswer : Type 0 where
   written : writing.WriteAnswer → CallAnswer
   cancelled : waiting.CancelAnswer → CallAnswer
   ticked : (counts : List ℕ) → CallAnswer
+  restoring : RestoreAnswer → CallAnswer
 
 -- what a step gives: the answer, every lent byte afterwards (those lent to be read, and the buffer lent to be written), and the next station
 pub record Outcome : Type 0 where
@@ -58,7 +63,10 @@ tickStep o = record { answer = ticked (o .ended); read = []; lent = []; station 
 abbrev pub writeStep : Station → writing.WriteOutcome → Outcome
 writeStep st o = record { answer = written (o .answer); read = []; lent = o .lent; station = st }
 
--- a writer: which port it is for, and what it writes. Switch and get-paired are for 255; the listing alone looks at the station, and is for none
+abbrev pub restoreStep : List ℕ → RestoreOutcome → Outcome
+restoreStep text o = record { answer = restoring (o .answer); read = text; lent = []; station = o .station }
+
+-- a writer: which port it is for, and what it writes. Switch and get-paired are for 255; the listing and the store alone look at the station, and are for none
 pub record WriterRow : Type 0 where
   pub target : Target
   pub rule : Station → (offset : ℕ) → (lent : List ℕ) → writing.WriteOutcome
@@ -70,6 +78,7 @@ writerRow getPaired = record { target = one receiver; rule = λ st offset lent. 
 writerRow (led device leds) =
     record { target = cond (isDevice device) (one device) none; rule = λ st offset lent. writing.ledRule device leds offset lent }
 writerRow list = record { target = none; rule = λ st offset lent. listingRule (st .ports) offset lent }
+writerRow store = record { target = none; rule = λ st offset lent. storeRule (st .ports) offset lent }
 
 abbrev pub writerRule : Station → Writer → ℕ → List ℕ → writing.WriteOutcome
 writerRule st writer offset lent = writerRow writer .rule st offset lent
@@ -92,6 +101,8 @@ callRow (cancel device byte2 byte3) =
 callRow tick = record { read = []; lent = []; target = all; outcome = λ st. tickStep (tickAll st) }
 callRow (write writer offset lent) =
     record { read = []; lent = lent; target = writerRow writer .target; outcome = λ st. writeStep st (writerRule st writer offset lent) }
+callRow (restore text) =
+    record { read = text; lent = []; target = none; outcome = λ st. restoreStep text (restoreRule st text) }
 
 abbrev pub readOf : Call → List ℕ
 readOf c = callRow c .read
@@ -108,6 +119,21 @@ labelOf st c = target c
 
 unfoldable pub step : Station → Call → Outcome
 step st c = callRow c .outcome st
+
+-- whether a text is a store
+abbrev pub isStore : StoreRead → Bool
+isStore (storeOf ports) = true
+isStore ofOther = false
+isStore (brokenAt line) = false
+
+-- a read that is accepted begins a new sequence, on the station that it restores. The text alone decides
+unfoldable pub begins : Call → Bool
+begins (take bytes) = false
+begins (request device byte2 byte3 ticks params offset lent) = false
+begins (cancel device byte2 byte3) = false
+begins tick = false
+begins (write writer offset lent) = false
+begins (restore text) = isStore (readStore text)
 
 -- one step after another: the final station
 unfoldable pub run : Station → List Call → Station

@@ -1,0 +1,40 @@
+-- Document 02, Ask 3: every history from a start is made of sequences, each on a start of its own.
+use mathlib.Core.Path.{_≡_, refl, sym, ap, subst}
+use mathlib.Core.Bool.{Bool, true, false}
+use mathlib.Core.List.{List, [], _∷_, _++_, map}
+use Rattle.station.specs.declared.Station.{Station}
+use Rattle.sequence.specs.Starts.{Start}
+use Rattle.sequence.specs.StartsLaws.{begun-start}
+use Rattle.sequence.specs.Steps.{Outcome, begins, step}
+use Rattle.sequence.specs.Histories.{Made, callOf, History}
+use Rattle.sequence.specs.HistoriesLaws.{met}
+use Rattle.sequence.specs.Sequences.{Unread, Sequence, Sequences, last, next}
+
+-- the same on any station: calls up to the first accepted read, and the sequences from there
+data Parted : Station → List Made → Type 0 where
+  whole : (st : Station) (ms : List Made) → History st ms → Unread (map callOf ms) → Parted st ms
+  parted : (st : Station) (ms : List Made) (m : Made) (ns : List Made) → History st ms → Unread (map callOf ms) → begins (m .call) ≡ true → Sequences (m .outcome .station) ns → Parted st (ms ++ (m ∷ ns))
+
+on-start : {st : Station} {ms : List Made} → Start st → Parted st ms → Sequences st ms
+on-start s (whole st ms h u) = last st ms (record { start = s; history = h; unread = u })
+on-start s (parted st ms m ns h u e rest) = next st ms m ns (record { start = s; history = h; unread = u }) e rest
+
+parts : (st : Station) (ms : List Made) → History st ms → Parted st ms
+unfolding History Unread
+parts st [] k = whole st [] tt tt
+parts st (m ∷ ms) k = by (begins (m .call)) refl (parts (m .outcome .station) ms (k .1))
+  where
+    begun : begins (m .call) ≡ true → Start (m .outcome .station)
+    begun e = subst (λ (o : Outcome). Start (o .station)) (sym (met (k .0))) (begun-start (m .call) st e)
+
+    longer : {x : Station} {ns : List Made} → x ≡ m .outcome .station → begins (m .call) ≡ false → Parted x ns → Parted st (m ∷ ns)
+    longer q e (whole x ns h u) = whole st (m ∷ ns) (k .0, subst (λ (y : Station). History y ns) q h) (e, u)
+    longer q e (parted x ns n rest h u f s) =
+        parted st (m ∷ ns) n rest (k .0, subst (λ (y : Station). History y ns) q h) (e, u) f s
+
+    by : (b : Bool) → begins (m .call) ≡ b → Parted (m .outcome .station) ms → Parted st (m ∷ ms)
+    by true e rest = parted st [] m ms tt tt e (on-start (begun e) rest)
+    by false e rest = longer refl e rest
+
+pub sequences : (st : Station) → Start st → (ms : List Made) → History st ms → Sequences st ms
+sequences st s ms k = on-start s (parts st ms k)
