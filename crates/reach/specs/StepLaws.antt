@@ -5,7 +5,7 @@ use mathlib.Core.Bool.{Bool, true, false, cond, _&&_, _||_, true≢false}
 use mathlib.Core.List.{List, [], _∷_, map}
 use native.Mathlib.Decide.{ℕ-discrete}
 use native.Mathlib.Omega.{arith}
-use lib.ListN.{length, getD, set, length-set, length-map, getD-replicate}
+use lib.ListN.{length, getD, set, length-set, length-map}
 use lib.Seq.{getD-set-same, getD-set-other}
 use lib.Dec.{eqb}
 use borrow.Author.Tests.{eqb-true, eqb-false, eq-eqb, ne-eqb}
@@ -30,7 +30,7 @@ use Rattle.request.specs.Requesting.{RequestAt, waitingRequest}
 use Rattle.store.specs.Stores.{Store}
 use Rattle.keeping.specs.ReadingLaws.{reads-exactly}
 use Rattle.station.specs.declared.Station.{Station}
-use Rattle.station.specs.Stations.{portCount, positionOf, freshStation, noPort, portAt, withPort}
+use Rattle.station.specs.Stations.{portCount, positionOf, portAt, withPort}
 use Rattle.station.specs.StationsLaws.{device-number, position-within}
 use Rattle.station.specs.StationTaking.{storedAt}
 use Rattle.station.specs.StationCalls as stations
@@ -46,7 +46,7 @@ use Rattle.sequence.specs.NumbersLaws.{device-port, one-number}
 use Rattle.sequence.specs.IndependenceLaws.{stored, elsewhere, ticked-at, counted-at, seven-start}
 use Rattle.reach.specs.ListsLaws.{found-passes, sum-set, after-map}
 use Rattle.reach.specs.Sound.{SoundPort, Reached}
-use Rattle.reach.specs.SoundLaws.{sound-ticks, sound-fresh}
+use Rattle.reach.specs.SoundLaws.{sound-ticks}
 use Rattle.reach.specs.StartLaws.{start-port, stored-sound, stored-places}
 use Rattle.reach.specs.SoundCallsLaws.{allowed, hidpp-sound, serial-sound, dj-sound, request-sound, cancel-sound}
 use Rattle.reach.specs.CallCases.{Answered, Placed, HidppCase, givesReply, gives, repliedPort, SerialCase, RequestCase, requestRefused, accepted, StepCase, unread, listEmpty, hidppAtPort, serialAtPort, djAtPort, request5, requestAtPort, cancel5, cancelAtPort, tickAllPorts, writeOnly, restoreStore, restoreOther, restoreBroken, AllPlaced}

@@ -1,14 +1,13 @@
 -- Laws of reading a store: what the program reads is what the rules read.
 use Prim.Native.Nat.{ℕ, zero, suc, _+_, _≤_, _<_}
 use mathlib.Core.Path.{_≡_, refl, sym, _∙_, ap, subst}
-use mathlib.Core.Bool.{Bool, true, false, cond}
+use mathlib.Core.Bool.{Bool, true, false}
 use mathlib.Core.List.{List, [], _∷_, _++_, append-assoc}
 use native.Mathlib.Numerals.{add-one}
 use native.Mathlib.Nat.{zero-add}
 use native.Mathlib.Omega.{arith}
-use lib.Dec.{eqb}
 use lib.ListN.{length, getD, set, take, drop, replicate, length-set, drop-of-length-le}
-use lib.Seq.{take-suc-set, take-all, take-suc, take-set-le, getD-set-other}
+use lib.Seq.{take-suc-set, take-all, take-suc, getD-set-other}
 use borrow.Author.Tests.{eq-eqb, ne-eqb}
 use Rattle.report.specs.Refusals as refusals
 use Rattle.report.specs.Ports.{deviceCount}
@@ -22,7 +21,7 @@ use Rattle.text.specs.WordsLaws.{decimal-last}
 use Rattle.text.specs.Texts.{tab, digits16, digits32}
 use Rattle.scan.specs.Scans.{Scan, missing, found, andThen, pairScan, wordScan, numberScan, decimalScan, digitsScan, digitMore, hexScan, serialScan, versionScan}
 use Rattle.scan.specs.ScanContracts.{scanned, Scans, capped, cappedScan}
-use Rattle.scan.specs.ScansLaws.{not-missing, same-value, same-rest, front, value-found, as-rule, mapped, pair-scanned, capped-is, capped-small}
+use Rattle.scan.specs.ScansLaws.{not-missing, same-value, same-rest, front, value-found, mapped, pair-scanned, capped-is, capped-small}
 use Rattle.scan.specs.ExactLaws.{low-digit}
 use Rattle.store.specs.Stores.{edition, padPort, indexLast}
 use Rattle.restore.specs.Restoring.{stopAfter, withIndex, indexesScan, Pad, padScan, portOf, deviceScan, StoreRead, storeOf, ofOther, brokenAt, withFirst, Row, rowBy, rowIn, devicesIn, editionScan, byEdition, readStore, Restoring, restored, refused, refusedAt, restoredBy, restorePorts}

@@ -6,12 +6,12 @@ use mathlib.Core.List.{List, [], _∷_}
 use native.Mathlib.Nat.{zero-add, suc-add, not-suc-le-zero, le-of-suc-le-suc}
 use native.Mathlib.Numerals.{add-one}
 use native.Mathlib.Omega.{arith}
-use lib.Dec.{leb, ltb, eqb}
+use lib.Dec.{ltb, eqb}
 use lib.ListN.{length, getD, drop, drop-of-length-le}
 use lib.Seq.{drop-cons, drop-drop, drop-length}
 use borrow.Author.Tests.{eqb-true, eq-eqb, ne-eqb, lt-ltb, le-ltb, le-leb, lt-leb, ltb-true, ltb-false}
 use Rattle.text.specs.Texts.{digits32}
-use Rattle.scan.specs.Scans.{Scan, missing, found, andThen, pairScan, wordScan, stopped, isDigit, Run, runAfter, runStopped, numberScan, upTo, decimalScan, capitalDigit, digitMore, digitsScan, hexScan, dash, unknownOr}
+use Rattle.scan.specs.Scans.{Scan, missing, found, andThen, pairScan, wordScan, stopped, isDigit, Run, runAfter, numberScan, upTo, decimalScan, capitalDigit, digitMore, digitsScan, hexScan, dash, unknownOr}
 use Rattle.scan.specs.ScanContracts.{scanned, Scans, Nothing, tooLarge, capped, cappedScan, Runs, frontIs, frontDigit}
 
 -- what is found is not nothing

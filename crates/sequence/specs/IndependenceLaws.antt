@@ -17,7 +17,6 @@ use Rattle.port.specs.Records.{withPlaces}
 use Rattle.port.specs.Places.{sumOver}
 use Rattle.port.specs.Ticks.{tickRule}
 use Rattle.serial.specs.Serials.{parameterFor, Given, noSerial, serialOf, serialRule}
-use Rattle.restore.specs.Restoring.{storeOf, readStore}
 use Rattle.restore.specs.RestoredLaws.{seven-ports}
 use Rattle.station.specs.declared.Station.{Station}
 use Rattle.station.specs.Stations.{portCount, positionOf, numberAt, freshStation, noPort, portAt, portFor, withPort}

@@ -19,7 +19,7 @@ use Rattle.station.specs.declared.Station.{Station}
 use Rattle.station.specs.Stations.{positionOf, portFor, withPort}
 use Rattle.station.specs.StationsLaws.{same-port}
 use Rattle.station.specs.StationTaking.{TakeOutcome, storedAt, alsoAt, takeBy, takeRule}
-use Rattle.station.specs.StationCalls.{RestoreOutcome, restoredTo, requestRule, cancelRule, tickAll, restoreRule}
+use Rattle.station.specs.StationCalls.{restoredTo, requestRule, cancelRule, tickAll, restoreRule}
 use Rattle.sequence.specs.Steps.{Writer, switch, getPaired, led, list, store, Call, take, request, cancel, tick, write, restore, taken, written, cancelled, Outcome, takeStep, tickStep, writeStep, restoreStep, writerRule, step, Returned, writerRow, target, isStore, begins}
 use Rattle.sequence.specs.Targets.{Target, none, one, all, readTarget}
 use Rattle.sequence.specs.Remaining.{withDropsIn}

@@ -7,7 +7,7 @@ use native.Mathlib.Omega.{arith}
 use lib.ListN.{length}
 use lib.Dec.{leb, eqb}
 use borrow.Author.Tests.{leb-true, leb-false, le-leb, eqb-false, not-false}
-use Rattle.report.specs.ChoicesLaws.{by-case, both, neither}
+use Rattle.report.specs.ChoicesLaws.{by-case, neither}
 use Rattle.report.specs.Ports.{receiver, inRange, isDevice, isPort}
 use Rattle.report.specs.Sizes.{byte, isHidpp, isReportId, lengthOf, hidppStart, djStart}
 use Rattle.report.specs.Reading.{Report, Read, isReserved, goesDown, isEmptyList, hasPort, reportFrom, hidppRule, djRule, familyRule, readRule}

@@ -1,14 +1,14 @@
 -- Document 02, Ask 3: every history from a start is made of sequences, each on a start of its own.
-use mathlib.Core.Path.{_≡_, refl, sym, ap, subst}
+use mathlib.Core.Path.{_≡_, refl, sym, subst}
 use mathlib.Core.Bool.{Bool, true, false}
 use mathlib.Core.List.{List, [], _∷_, _++_, map}
 use Rattle.station.specs.declared.Station.{Station}
 use Rattle.sequence.specs.Starts.{Start}
 use Rattle.sequence.specs.StartsLaws.{begun-start}
-use Rattle.sequence.specs.Steps.{Outcome, begins, step}
+use Rattle.sequence.specs.Steps.{Outcome, begins}
 use Rattle.sequence.specs.Histories.{Made, callOf, History}
 use Rattle.sequence.specs.HistoriesLaws.{met}
-use Rattle.sequence.specs.Sequences.{Unread, Sequence, Sequences, last, next}
+use Rattle.sequence.specs.Sequences.{Unread, Sequences, last, next}
 
 -- the same on any station: calls up to the first accepted read, and the sequences from there
 data Parted : Station → List Made → Type 0 where

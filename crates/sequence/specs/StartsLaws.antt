@@ -1,6 +1,6 @@
 -- Document 02, Ask 3: an accepted read begins a new sequence, on a start.
-use mathlib.Core.Path.{_≡_, refl, sym, ap, subst}
-use mathlib.Core.Bool.{true, false, true≢false}
+use mathlib.Core.Path.{_≡_, refl, sym}
+use mathlib.Core.Bool.{true, true≢false}
 use Rattle.restore.specs.Restoring.{StoreRead, storeOf, ofOther, brokenAt, readStore, restoredBy, restorePorts}
 use Rattle.station.specs.declared.Station.{Station}
 use Rattle.station.specs.StationCalls.{restoredTo, restoreRule}

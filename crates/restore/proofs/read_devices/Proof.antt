@@ -1,10 +1,9 @@
 -- `restore::read_devices` meets its contract: the first i devices have been read, up to a line.
-use Prim.Native.Nat.{ℕ, suc, _+_, _-_}
+use Prim.Native.Nat.{suc, _-_}
 use mathlib.Core.Path.{refl, ap}
 use native.Mathlib.Omega.{arith}
 use lib.ListN.{replicate}
 use Rattle.report.specs.Ports.{deviceCount}
-use Rattle.port.specs.declared.Port.{Port}
 use Rattle.restore.specs.RestoringLaws.{Devices, devices-begun, device-read, devices-broken, devices-done}
 use borrow.Author.Needs.{needs}
 use Rattle.restore.proofs.read_devices.Statement.{statement}

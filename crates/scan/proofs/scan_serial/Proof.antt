@@ -1,7 +1,7 @@
 -- `scan::scan_serial` meets its contract: "-", or a number.
 use mathlib.Core.Path.{refl, sym, _∙_}
 use native.Mathlib.Omega.{arith}
-use Rattle.port.specs.declared.Serial.the-variants.{Unknown, Known}
+use Rattle.port.specs.declared.Serial.the-variants.{Known}
 use Rattle.scan.specs.Scans.{digitsScan, digitMore, hexScan, knownSerial, serialScan}
 use Rattle.scan.specs.ScansLaws.{mapped, unknown-scanned, known-scanned}
 use borrow.Author.Needs.{needs}

@@ -2,7 +2,7 @@
 use Prim.Native.Nat.{ℕ}
 use mathlib.Core.Path.{refl, sym, _∙_}
 use native.Mathlib.Omega.{arith}
-use Rattle.port.specs.declared.Version.the-variants.{Unknown, Known}
+use Rattle.port.specs.declared.Version.the-variants.{Known}
 use Rattle.scan.specs.Scans.{pairScan, numberScan, decimalScan, knownVersion, versionScan}
 use Rattle.scan.specs.ScansLaws.{mapped, pair-scanned, unknown-scanned, known-scanned}
 use borrow.Author.Needs.{needs}

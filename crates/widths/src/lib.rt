@@ -1,0 +1,1 @@
+// Numbers of a port, as wide as their fields. There is no code here.
