@@ -16,9 +16,9 @@ use Rattle.port.specs.PortContracts.{takenOf}
 use Rattle.hidpp.specs.HidppTaking.{messageOf, carried}
 use Rattle.serial.specs.Giving.{Gives}
 use Rattle.port.specs.declared.Port.{Port}
-use Rattle.store.specs.Stores.{storeText, kept, Store}
+use Rattle.store.specs.Stores.{storeText, storedOf, Store}
 use Rattle.keeping.specs.Lines.{OtherEdition, BrokenAt}
-use Rattle.keeping.specs.Keeping.{accepted, refusedOther, refusedBroken, Kept}
+use Rattle.keeping.specs.Keeping.{accepted, refusedOther, refusedBroken, KeptStores}
 use Rattle.station.specs.declared.Station.{Station}
 use Rattle.station.specs.declared.TakeResult.{TakeResult}
 use Rattle.station.specs.declared.RestoreResult.{RestoreResult}
@@ -84,7 +84,7 @@ pub record Demands : Type 0 where
   pub other-editions : (st : Station) (text : List ℕ) (r : RestoreResult) → Ensured st (restore text) (restoreStep text (restoreOutcome r)) → (restoreOutcome r ≡ restoredTo (refusedOther (st .ports))) ↔ OtherEdition text
   pub broken-lines : (st : Station) (text : List ℕ) (r : RestoreResult) → Ensured st (restore text) (restoreStep text (restoreOutcome r)) → (line : ℕ) → (restoreOutcome r ≡ restoredTo (refusedBroken line (st .ports))) ↔ BrokenAt text line
   -- Reading what was written after any history whose reports and texts are bytes, on any station, gives back what a store keeps of every port
-  pub read-back : (st : Station) → Start st → (ms : List Made) → History st ms → AllRead (map callOf ms) → (other : Station) (r : RestoreResult) → Ensured other (restore (storeText (stationAfter st ms .ports))) (restoreStep (storeText (stationAfter st ms .ports)) (restoreOutcome r)) → restoreOutcome r ≡ restoredTo (accepted (map kept (stationAfter st ms .ports)))
+  pub read-back : (st : Station) → Start st → (ms : List Made) → History st ms → AllRead (map callOf ms) → (other : Station) (r : RestoreResult) → Ensured other (restore (storeText (stationAfter st ms .ports))) (restoreStep (storeText (stationAfter st ms .ports)) (restoreOutcome r)) → restoreOutcome r ≡ restoredTo (accepted (map storedOf (stationAfter st ms .ports)))
   -- Records change only as documents 01 and 02 list: of every port, by every call, a field that is not listed stays. An accepted read gives every port anew, and so of it neither this nor the next is said
   pub changes : (st : Station) → Reached st → (c : Call) (o : Outcome) → Ensured st c o → begins c ≡ false → (n : ℕ) → isPort n ≡ true → ChangesListed n c (o .answer) (portFor st 255) (portFor st n) (portFor (o .station) n)
   -- Each count is that of places emptied: what becomes of every place of every port by every call, and the counts for each way in which a request ends
@@ -124,6 +124,6 @@ pub record Demands : Type 0 where
   -- What is gathered of the rules alone, of every station and of every list of calls: their cases, their refusals, what they end and change; and each port by itself, any two orders, and which calls have an encoding
   pub of-the-rules : Complete
   -- of the store: what reading and writing come to for every text and all ports, and that the texts that are accepted are exactly those that the writer writes for some station that calls reach
-  pub of-stores : Kept
+  pub of-stores : KeptStores
   pub of-texts : AllWritten
   pub of-runs : Demand3

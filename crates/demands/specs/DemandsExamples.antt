@@ -47,7 +47,7 @@ use Rattle.station.specs.declared.TickResult.{TickResult}
 use Rattle.station.specs.StationContracts.{takeOutcome, requestOutcome, cancelOutcome, tickOutcome, restoreOutcome}
 use Rattle.station.specs.declared.RestoreResult.{RestoreResult}
 use Rattle.station.specs.StationCalls.{RestoreOutcome, restoredTo}
-use Rattle.store.specs.Stores.{storeText, kept, Store}
+use Rattle.store.specs.Stores.{storeText, storedOf, Store}
 use Rattle.restore.specs.Restoring.{refused, refusedAt}
 use Rattle.restore.specs.RestoreContracts.{restoredOf}
 use Rattle.keeping.specs.Lines.{IsStore, OtherEdition, BrokenAt}
@@ -365,7 +365,7 @@ module _ (d : Demands) where
     only-that-line line = d .broken-lines st text r e line .0
 
   -- a restart: pad 2 has its model back, whatever the calls before were
-  pad-2-back : (st : Station) → Start st → (ms : List Made) → History st ms → AllRead (map callOf ms) → (other : Station) (r : RestoreResult) → Ensured other (restore (storeText (stationAfter st ms .ports))) (restoreStep (storeText (stationAfter st ms .ports)) (restoreOutcome r)) → r .station .ports ≡ map kept (stationAfter st ms .ports)
+  pad-2-back : (st : Station) → Start st → (ms : List Made) → History st ms → AllRead (map callOf ms) → (other : Station) (r : RestoreResult) → Ensured other (restore (storeText (stationAfter st ms .ports))) (restoreStep (storeText (stationAfter st ms .ports)) (restoreOutcome r)) → r .station .ports ≡ map storedOf (stationAfter st ms .ports)
   pad-2-back st begun ms k bytes other r e =
       ap (λ (o : RestoreOutcome). o .station .ports) (d .read-back st begun ms k bytes other r e)
 

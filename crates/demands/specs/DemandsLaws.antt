@@ -6,8 +6,7 @@ use mathlib.Core.List.{List, map}
 use denote.Ref.{now}
 use Rattle.port.specs.Answers.{Answer}
 use Rattle.port.specs.PortContracts.{takenOf}
-use Rattle.port.specs.declared.Port.{Port}
-use Rattle.store.specs.Stores.{storeText, kept}
+use Rattle.store.specs.Stores.{storeText, storedOf}
 use Rattle.restore.specs.Restoring.{RestoreAnswer, StoreRead, Restoring, restoredBy, restorePorts}
 use Rattle.keeping.specs.Keeping.{Storable, accepted}
 use Rattle.keeping.specs.KeepingLaws.{keeping}
@@ -19,7 +18,7 @@ use Rattle.station.specs.StationContracts.{takeOutcome, restoreOutcome}
 use Rattle.station.specs.StationTaking.{takeRule}
 use Rattle.sequence.specs.Starts.{Start, fresh}
 use Rattle.sequence.specs.Steps as steps
-use Rattle.sequence.specs.Steps.{Call, take, restore, Outcome, takeStep, restoreStep, begins, step, run}
+use Rattle.sequence.specs.Steps.{Call, take, restore, Outcome, takeStep, restoreStep, step, run}
 use Rattle.sequence.specs.Refused.{isRefusal, Unchanged}
 use Rattle.sequence.specs.Sentence.{sentence}
 use Rattle.sequence.specs.SentenceLaws.{by-answer}
@@ -90,7 +89,7 @@ same-read e = ap (λ (o : RestoreOutcome). back o) e
     back : RestoreOutcome → Restoring
     back o = record { answer = o .answer; ports = o .station .ports }
 
-came-back : (st : Station) → Start st → (ms : List Made) → History st ms → AllRead (map callOf ms) → (other : Station) (r : RestoreResult) → Ensured other (restore (storeText (stationAfter st ms .ports))) (restoreStep (storeText (stationAfter st ms .ports)) (restoreOutcome r)) → restoreOutcome r ≡ restoredTo (accepted (map kept (stationAfter st ms .ports)))
+came-back : (st : Station) → Start st → (ms : List Made) → History st ms → AllRead (map callOf ms) → (other : Station) (r : RestoreResult) → Ensured other (restore (storeText (stationAfter st ms .ports))) (restoreStep (storeText (stationAfter st ms .ports)) (restoreOutcome r)) → restoreOutcome r ≡ restoredTo (accepted (map storedOf (stationAfter st ms .ports)))
 unfolding restorePorts
 came-back st begun ms k bytes other r e =
     let end : stationAfter st ms ≡ run st (map callOf ms) = histories.history st ms k .station in

@@ -9,21 +9,21 @@ use lib.ListN.{length}
 use Rattle.report.specs.declared.FeatureIndex.{FeatureIndex}
 use Rattle.port.specs.declared.Port.{Port}
 use Rattle.port.specs.Records.{featureCount}
-use Rattle.text.specs.Words.{newline, hex, decimal}
+use Rattle.text.specs.Words.{newline, hex, decimal, isDigit}
 use Rattle.text.specs.Texts.{tab, tabbed, digits16, digits32, versionText, serialText}
-use Rattle.scan.specs.Scans.{Scan, missing, found, andThen, isDigit}
+use Rattle.scan.specs.Scans.{Scan, missing, found, thenScan}
 use Rattle.scan.specs.ScansLaws.{not-missing, same-value, same-rest}
 use Rattle.scan.specs.Exact.{Reads, SerialFits, VersionFits}
 use Rattle.scan.specs.ExactLaws.{decimal-read, hex-read, serial-read, version-read, pair-read, word-read}
-use Rattle.store.specs.Stores.{indexFields, padLine, padPort, kept, indexLast, IndexesFit, PadFits, StoredDevice}
+use Rattle.store.specs.Stores.{indexFields, padLine, padPort, storedOf, indexLast, IndexesFit, PadFits, StoredDevice}
 use Rattle.restore.specs.Restoring.{stopAfter, withIndex, indexesScan, Pad, padScan, portOf, deviceScan}
 
 -- a value made of the one that is read
-pub mapped-read : {A B : Type 0} {FitsA : A → Type 0} {FitsB : B → Type 0} {textA : A → List ℕ} {textB : B → List ℕ} {rule : List ℕ → Scan A} (g : A → B) → Reads FitsA textA rule → ((a : A) → FitsA a → FitsB (g a) × (textA a ≡ textB (g a))) → ((b : B) → FitsB b → (a : A) × (FitsA a × (g a ≡ b))) → Reads FitsB textB (λ (s : List ℕ). andThen (rule s) (λ a rest. found (g a) rest))
+pub mapped-read : {A B : Type 0} {FitsA : A → Type 0} {FitsB : B → Type 0} {textA : A → List ℕ} {textB : B → List ℕ} {rule : List ℕ → Scan A} (g : A → B) → Reads FitsA textA rule → ((a : A) → FitsA a → FitsB (g a) × (textA a ≡ textB (g a))) → ((b : B) → FitsB b → (a : A) × (FitsA a × (g a ≡ b))) → Reads FitsB textB (λ (s : List ℕ). thenScan (rule s) (λ a rest. found (g a) rest))
 mapped-read {A} {B} {FitsA} {FitsB} {textA} {textB} {rule} g r to from =
     record { sound = λ s b rest e. read s (rule s) refl b rest e; complete = λ b h rest. written b h rest (from b h) }
   where
-    read : (s : List ℕ) (x : Scan A) → rule s ≡ x → (b : B) (rest : List ℕ) → andThen x (λ a rest. found (g a) rest) ≡ found b rest → FitsB b × (s ≡ textB b ++ rest)
+    read : (s : List ℕ) (x : Scan A) → rule s ≡ x → (b : B) (rest : List ℕ) → thenScan x (λ a rest. found (g a) rest) ≡ found b rest → FitsB b × (s ≡ textB b ++ rest)
     read s missing q b rest e = absurd (not-missing (sym e))
     read s (found a t) q b rest e =
         let front = r .sound s a t q in
@@ -31,10 +31,10 @@ mapped-read {A} {B} {FitsA} {FitsB} {textA} {textB} {rule} g r to from =
         let is : g a ≡ b = same-value e in
         (subst FitsB is (made .0), front .1 ∙ (λ i. (made .1 ∙ ap textB is) i ++ same-rest e i))
 
-    written : (b : B) → FitsB b → (rest : List ℕ) → (a : A) × (FitsA a × (g a ≡ b)) → andThen (rule (textB b ++ rest)) (λ a rest. found (g a) rest) ≡ found b rest
+    written : (b : B) → FitsB b → (rest : List ℕ) → (a : A) × (FitsA a × (g a ≡ b)) → thenScan (rule (textB b ++ rest)) (λ a rest. found (g a) rest) ≡ found b rest
     written b h rest (a, (fits, is)) =
-        ap (λ (t : List ℕ). andThen (rule (t ++ rest)) (λ a rest. found (g a) rest)) (sym (to a fits .1 ∙ ap textB is))
-        ∙ ap (λ (x : Scan A). andThen x (λ a rest. found (g a) rest)) (r .complete a fits rest)
+        ap (λ (t : List ℕ). thenScan (rule (t ++ rest)) (λ a rest. found (g a) rest)) (sym (to a fits .1 ∙ ap textB is))
+        ∙ ap (λ (x : Scan A). thenScan x (λ a rest. found (g a) rest)) (r .complete a fits rest)
         ∙ ap (λ (o : B). found o rest) is
 
 -- the indexes from a position on, each with the byte after it
@@ -161,15 +161,15 @@ abbrev pub PairedStored : Port → Type 0
 PairedStored p = (p .paired ≡ true) × StoredDevice p
 
 pub stored-pad : (p : Pad) → PadTold p → PairedStored (portOf p)
-unfolding padPort kept
+unfolding padPort storedOf
 stored-pad p h =
     (refl, record { fits = λ e. record { model = h .0; told = h .1 .0; types = h .1 .1 .0; spoken = h .1 .1 .1 .0; all = h .1 .1 .1 .1 .0; indexes = h .1 .1 .1 .1 .1 }; rest = refl })
 
 pub pad-stored : (p : Port) → PairedStored p → (q : Pad) × (PadTold q × (portOf q ≡ p))
-unfolding kept
+unfolding storedOf
 pad-stored p h =
     let f : PadFits p = h .1 .fits (h .0) in
-    let is : kept p ≡ padPort (p .wpid) (p .serial) (p .reports) (p .version) (p .features) = simp (h .0) in
+    let is : storedOf p ≡ padPort (p .wpid) (p .serial) (p .reports) (p .version) (p .features) = simp (h .0) in
     ((p .wpid, (p .serial, (p .reports, (p .version, p .features)))), ((f .model, (f .told, (f .types, (f .spoken, (f .all, f .indexes))))), sym (h .1 .rest ∙ is)))
 
 -- the line of the device of a number

@@ -11,56 +11,56 @@ use Rattle.report.specs.Ports.{deviceCount}
 use Rattle.port.specs.declared.Port.{Port}
 use Rattle.port.specs.Records.{freshPort}
 use Rattle.text.specs.Texts.{pairedText}
-use Rattle.store.specs.Stores.{edition, editionLine, padLine, storeText, padPort, kept, PadFits, StoredDevice, AllStored, Store}
+use Rattle.store.specs.Stores.{edition, editionLine, padLine, storeText, padPort, storedOf, PadFits, StoredDevice, AllStored, Store}
 use Rattle.restore.specs.Restoring.{StoreRead, storeOf, ofOther, brokenAt, readStore, RestoreAnswer, restored, refused, refusedAt, Restoring, restoredBy, restorePorts}
 use Rattle.keeping.specs.Lines.{OtherEdition, BrokenAt}
 use Rattle.keeping.specs.ReadingLaws.{linesFrom, fresh-stored, paired-line, no-line, store-lines, reads-exactly, other-exactly}
 use Rattle.keeping.specs.LinesLaws.{broken-exactly, line-bounds, one-of}
-use Rattle.keeping.specs.Keeping.{Storable, ReadBack, accepted, refusedOther, refusedBroken, Kept}
+use Rattle.keeping.specs.Keeping.{Storable, ReadBack, accepted, refusedOther, refusedBroken, KeptStores}
 
 -- what a store keeps of a port
-pub kept-paired : (p : Port) → p .paired ≡ true → kept p ≡ padPort (p .wpid) (p .serial) (p .reports) (p .version) (p .features)
-unfolding kept
+pub kept-paired : (p : Port) → p .paired ≡ true → storedOf p ≡ padPort (p .wpid) (p .serial) (p .reports) (p .version) (p .features)
+unfolding storedOf
 kept-paired p e = simp e
 
-pub kept-fresh : (p : Port) → p .paired ≡ false → kept p ≡ freshPort
-unfolding kept
+pub kept-fresh : (p : Port) → p .paired ≡ false → storedOf p ≡ freshPort
+unfolding storedOf
 kept-fresh p e = simp e
 
-pub paired-kept : (p : Port) → p .paired ≡ true → ReadBack p (kept p)
+pub paired-kept : (p : Port) → p .paired ≡ true → ReadBack p (storedOf p)
 unfolding padPort freshPort
 paired-kept p e = subst (ReadBack p) (sym (kept-paired p e)) (record { paired = refl; wpid = refl; serial = refl; reports = refl; version = refl; features = refl; up = refl; battery = refl; places = refl })
 
 -- its line is the port's
-kept-line : (number : ℕ) (p : Port) → pairedText padLine number (kept p) ≡ pairedText padLine number p
+kept-line : (number : ℕ) (p : Port) → pairedText padLine number (storedOf p) ≡ pairedText padLine number p
 unfolding pairedText padLine padPort freshPort
 kept-line number p = go (p .paired) refl
   where
-    go : (b : Bool) → p .paired ≡ b → pairedText padLine number (kept p) ≡ pairedText padLine number p
+    go : (b : Bool) → p .paired ≡ b → pairedText padLine number (storedOf p) ≡ pairedText padLine number p
     go true e = ap (pairedText padLine number) (kept-paired p e) ∙ sym (paired-line number p e)
     go false e = ap (pairedText padLine number) (kept-fresh p e) ∙ sym (no-line number p e)
 
-kept-lines : (number : ℕ) (devices : List Port) → linesFrom number (map kept devices) ≡ linesFrom number devices
+kept-lines : (number : ℕ) (devices : List Port) → linesFrom number (map storedOf devices) ≡ linesFrom number devices
 unfolding linesFrom
 kept-lines number [] = refl
 kept-lines number (p ∷ devices) = λ i. kept-line number p i ++ kept-lines (suc number) devices i
 
 pad-port-stored : (p : Port) → PadFits p → StoredDevice (padPort (p .wpid) (p .serial) (p .reports) (p .version) (p .features))
-unfolding padPort kept
+unfolding padPort storedOf
 pad-port-stored p h =
     record {
       fits = λ e. record { model = h .model; told = h .told; types = h .types; spoken = h .spoken; all = h .all; indexes = h .indexes };
       rest = refl;
     }
 
-kept-stored : (p : Port) → (p .paired ≡ true → PadFits p) → StoredDevice (kept p)
+kept-stored : (p : Port) → (p .paired ≡ true → PadFits p) → StoredDevice (storedOf p)
 kept-stored p h = go (p .paired) refl
   where
-    go : (b : Bool) → p .paired ≡ b → StoredDevice (kept p)
+    go : (b : Bool) → p .paired ≡ b → StoredDevice (storedOf p)
     go true e = subst StoredDevice (sym (kept-paired p e)) (pad-port-stored p (h e))
     go false e = subst StoredDevice (sym (kept-fresh p e)) fresh-stored
 
-all-kept : (devices : List Port) → ((position : ℕ) → position < length devices → getD devices position freshPort .paired ≡ true → PadFits (getD devices position freshPort)) → AllStored (map kept devices)
+all-kept : (devices : List Port) → ((position : ℕ) → position < length devices → getD devices position freshPort .paired ≡ true → PadFits (getD devices position freshPort)) → AllStored (map storedOf devices)
 unfolding AllStored
 all-kept [] h = tt
 all-kept (p ∷ devices) h =
@@ -88,29 +88,29 @@ last-port (suc count) (p ∷ ports) e = with-first (last-port count ports (omega
     with-first : LastPort count ports → LastPort (suc count) (p ∷ ports)
     with-first l = record { devices = p ∷ l .devices; last = l .last; counted = ap suc (l .counted); so = ap (λ (r : List Port). p ∷ r) (l .so) }
 
-map-last : (devices : List Port) (r : Port) → map kept (devices ++ (r ∷ [])) ≡ map kept devices ++ (kept r ∷ [])
+map-last : (devices : List Port) (r : Port) → map storedOf (devices ++ (r ∷ [])) ≡ map storedOf devices ++ (storedOf r ∷ [])
 map-last [] r = refl
-map-last (p ∷ devices) r = ap (λ (l : List Port). kept p ∷ l) (map-last devices r)
+map-last (p ∷ devices) r = ap (λ (l : List Port). storedOf p ∷ l) (map-last devices r)
 
-length-map-kept : (devices : List Port) → length (map kept devices) ≡ length devices
+length-map-kept : (devices : List Port) → length (map storedOf devices) ≡ length devices
 length-map-kept [] = refl
 length-map-kept (p ∷ devices) = ap suc (length-map-kept devices)
 
 -- the text of what is kept is the text that was written
-pub kept-store : (ports : List Port) → Storable ports → Store (storeText ports) (map kept ports)
+pub kept-store : (ports : List Port) → Storable ports → Store (storeText ports) (map storedOf ports)
 kept-store ports h = by (last-port deviceCount ports (h .all))
   where
-    by : LastPort deviceCount ports → Store (storeText ports) (map kept ports)
+    by : LastPort deviceCount ports → Store (storeText ports) (map storedOf ports)
     by l =
-        let six : length (map kept (l .devices)) ≡ deviceCount = length-map-kept (l .devices) ∙ l .counted in
+        let six : length (map storedOf (l .devices)) ≡ deviceCount = length-map-kept (l .devices) ∙ l .counted in
         let none : l .last .paired ≡ false = ap (λ (p : Port). p .paired) (sym (ap (λ (ports : List Port). getD ports deviceCount freshPort) (l .so) ∙ getD-at (l .devices) (l .last) [] freshPort deviceCount (l .counted))) ∙ h .receiver in
-        let all : map kept ports ≡ map kept (l .devices) ++ (freshPort ∷ []) = ap (map kept) (l .so) ∙ map-last (l .devices) (l .last) ∙ ap (λ (p : Port). map kept (l .devices) ++ (p ∷ [])) (kept-fresh (l .last) none) in
+        let all : map storedOf ports ≡ map storedOf (l .devices) ++ (freshPort ∷ []) = ap (map storedOf) (l .so) ∙ map-last (l .devices) (l .last) ∙ ap (λ (p : Port). map storedOf (l .devices) ++ (p ∷ [])) (kept-fresh (l .last) none) in
         record {
-          devices = map kept (l .devices);
+          devices = map storedOf (l .devices);
           six = six;
           each = all-kept (l .devices) each;
           all = all;
-          so = ap storeText (l .so) ∙ store-lines (l .devices) (l .last) (l .counted) ∙ ap (λ (t : List ℕ). editionLine edition ++ t) (sym (kept-lines 1 (l .devices))) ∙ sym (ap storeText all ∙ store-lines (map kept (l .devices)) freshPort six);
+          so = ap storeText (l .so) ∙ store-lines (l .devices) (l .last) (l .counted) ∙ ap (λ (t : List ℕ). editionLine edition ++ t) (sym (kept-lines 1 (l .devices))) ∙ sym (ap storeText all ∙ store-lines (map storedOf (l .devices)) freshPort six);
         }
       where
         each : (position : ℕ) → position < length (l .devices) → getD (l .devices) position freshPort .paired ≡ true → PadFits (getD (l .devices) position freshPort)
@@ -118,8 +118,8 @@ kept-store ports h = by (last-port deviceCount ports (h .all))
             let same : getD ports position freshPort ≡ getD (l .devices) position freshPort = ap (λ (ports : List Port). getD ports position freshPort) (l .so) ∙ List·getD-append (l .devices) (l .last ∷ []) freshPort position inside in
             subst PadFits same (h .fits position (omega (arith, inside, l .counted)) (ap (λ (p : Port). p .paired) same ∙ e))
 
-pub read-back : (ports : List Port) → Storable ports → readStore (storeText ports) ≡ storeOf (map kept ports)
-read-back ports h = reads-exactly (storeText ports) (map kept ports) .1 (kept-store ports h)
+pub read-back : (ports : List Port) → Storable ports → readStore (storeText ports) ≡ storeOf (map storedOf ports)
+read-back ports h = reads-exactly (storeText ports) (map storedOf ports) .1 (kept-store ports h)
 
 -- the ports of a store can be said by one
 pub storable : (text : List ℕ) (ports : List Port) → Store text ports → Storable ports
@@ -202,13 +202,13 @@ module _ (ports : List Port) where
   refuses-broken text n =
       ((λ e. broken-exactly text n .0 (answered-broken n (readStore text) e)), (λ s. ap (restoredBy ports) (broken-exactly text n .1 s)))
 
-pub keeping : Kept
+pub keeping : KeptStores
 keeping =
     record {
       read-back = read-back;
       paired-kept = paired-kept;
       unpaired-fresh = kept-fresh;
-      written = λ text. ((λ s. (s .0, (storable text (s .0) (s .1), s .1 .so))), (λ w. (map kept (w .0), subst (λ (t : List ℕ). Store t (map kept (w .0))) (sym (w .1 .1)) (kept-store (w .0) (w .1 .0)))));
+      written = λ text. ((λ s. (s .0, (storable text (s .0) (s .1), s .1 .so))), (λ w. (map storedOf (w .0), subst (λ (t : List ℕ). Store t (map storedOf (w .0))) (sym (w .1 .1)) (kept-store (w .0) (w .1 .0)))));
       written-back = λ text ports s. sym (s .so);
       one-text = λ text other ports s t. s .so ∙ sym (t .so);
       restores = restores;

@@ -13,11 +13,11 @@ use Rattle.port.specs.declared.Battery.the-variants as batteries
 use Rattle.port.specs.declared.Serial.the-variants as serials
 use Rattle.port.specs.Records.{featureCount, emptyPlace, freshPort}
 use Rattle.text.specs.Words.{ascii}
-use Rattle.store.specs.Stores.{editionLine, storeText, padPort, kept, IndexesFit, PadFits, Store}
+use Rattle.store.specs.Stores.{editionLine, storeText, padPort, storedOf, IndexesFit, PadFits, Store}
 use Rattle.store.specs.StoresExamples.{paired-and-asked}
 use Rattle.restore.specs.Restoring.{storeOf, readStore, restoredBy, restorePorts}
 use Rattle.keeping.specs.Lines.{firstLines, IsStore, OtherEdition, BrokenAt}
-use Rattle.keeping.specs.Keeping.{Storable, ReadBack, accepted, refusedOther, refusedBroken, Kept}
+use Rattle.keeping.specs.Keeping.{Storable, ReadBack, accepted, refusedOther, refusedBroken, KeptStores}
 use Rattle.keeping.specs.KeepingExamples.{first-lines, device-lines}
 
 -- device 2 of the document's example, with its link up, a battery, and a request that waits
@@ -84,17 +84,17 @@ one-reading p q r a b = λ i.
       places = (a .places ∙ sym (b .places)) i;
     }
 
-module _ (k : Kept) where
+module _ (k : KeptStores) where
   -- link, battery and requests are not kept
   read-without-link : readStore (storeText busyPorts) ≡ storeOf askedPorts
-  unfolding kept busy freshPort padPort paired-and-asked
+  unfolding storedOf busy freshPort padPort paired-and-asked
   read-without-link = k .read-back busyPorts busy-storable
 
   busy-back : ReadBack busy paired-and-asked
-  unfolding kept busy padPort paired-and-asked
+  unfolding storedOf busy padPort paired-and-asked
   busy-back = k .paired-kept busy refl
 
-  unpaired-forgotten : (p : Port) → p .paired ≡ false → kept p .version ≡ freshPort .version
+  unpaired-forgotten : (p : Port) → p .paired ≡ false → storedOf p .version ≡ freshPort .version
   unpaired-forgotten p e = ap (λ (q : Port). q .version) (k .unpaired-fresh p e)
 
   asked-store : Store asked askedPorts

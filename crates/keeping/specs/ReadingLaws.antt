@@ -19,7 +19,7 @@ use Rattle.scan.specs.Scans.{Scan, missing, found, numberScan}
 use Rattle.scan.specs.ScansLaws.{not-missing, same-value}
 use Rattle.scan.specs.Exact.{Reads}
 use Rattle.scan.specs.ExactLaws.{number-read, word-read, pair-read}
-use Rattle.store.specs.Stores.{edition, editionLine, padLine, storeText, kept, StoredDevice, AllStored, Store}
+use Rattle.store.specs.Stores.{edition, editionLine, padLine, storeText, storedOf, StoredDevice, AllStored, Store}
 use Rattle.restore.specs.Restoring.{deviceScan, StoreRead, storeOf, ofOther, brokenAt, withFirst, Row, rowBy, rowIn, devicesIn, editionScan, byEdition, readStore}
 use Rattle.keeping.specs.DeviceLaws.{padText, PairedStored, pad-stored, line-text, device-read}
 use Rattle.keeping.specs.Lines.{OtherEdition}
@@ -89,7 +89,7 @@ linesFrom number [] = []
 linesFrom number (p ∷ devices) = pairedText padLine number p ++ linesFrom (suc number) devices
 
 pub fresh-stored : StoredDevice freshPort
-unfolding freshPort kept
+unfolding freshPort storedOf
 fresh-stored = record { fits = λ e. absurd (false≢true e); rest = refl }
 
 fresh-unpaired : freshPort .paired ≡ false
@@ -97,8 +97,8 @@ unfolding freshPort
 fresh-unpaired = refl
 
 pub unpaired-fresh : (p : Port) → StoredDevice p → p .paired ≡ false → p ≡ freshPort
-unfolding kept
-unpaired-fresh p h e = let is : kept p ≡ freshPort = simp e in h .rest ∙ is
+unfolding storedOf
+unpaired-fresh p h e = let is : storedOf p ≡ freshPort = simp e in h .rest ∙ is
 
 pub paired-line : (number : ℕ) (p : Port) → p .paired ≡ true → pairedText padLine number p ≡ padLine number p
 unfolding pairedText

@@ -7,6 +7,7 @@ use lib.ListN.{length}
 use lib.Dec.{ltb, leb, eqb}
 use Rattle.report.specs.Ports.{inRange}
 use Rattle.report.specs.Sizes.{byte}
+use Rattle.text.specs.Words.{isDigit}
 
 -- '0' to '9', 'A' to 'F' and 'a' to 'f'; 16 where the character is no digit
 unfoldable pub hexDigit : ℕ → ℕ
@@ -23,9 +24,6 @@ hexPair high low = cond (ltb high 16 && ltb low 16) (some (high * 16 + low)) non
 unfoldable pub hexByte : List ℕ → Option ℕ
 hexByte word =
     cond (eqb (length word) 2) (hexPair (hexDigit (byte word 0)) (hexDigit (byte word 1))) none
-
-abbrev pub isDigit : ℕ → Bool
-isDigit c = inRange 48 c 57
 
 unfoldable pub allDigits : List ℕ → Bool
 allDigits [] = true

@@ -9,15 +9,10 @@ use native.Mathlib.Omega.{arith}
 use lib.Dec.{leb}
 use lib.ListN.{length, getD, drop, drop-of-length-le}
 use lib.Seq.{drop-cons}
-use borrow.Author.Tests.{eq-eqb, ne-eqb, lt-ltb, le-ltb, le-leb, lt-leb, leb-true}
-use Rattle.report.specs.ChoicesLaws.{both}
-use Rattle.report.specs.Ports.{inRange}
+use borrow.Author.Tests.{eq-eqb, ne-eqb, lt-ltb, le-ltb, le-leb, lt-leb}
 use Rattle.report.specs.Sizes.{byte}
-use Rattle.replay_line.specs.LineValues.{hexDigit, hexByte, isDigit, allDigits, valueAfter, leadingZero, greatest, digitsAfter, number}
-
-pub in-range : (lo n hi : ℕ) → inRange lo n hi ≡ true → (lo ≤ n) × (n ≤ hi)
-in-range lo n hi e =
-    let tests = both (leb lo n) (leb n hi) e in (leb-true lo n (tests .0), leb-true n hi (tests .1))
+use Rattle.text.specs.Words.{isDigit}
+use Rattle.replay_line.specs.LineValues.{hexDigit, hexByte, allDigits, valueAfter, leadingZero, greatest, digitsAfter, number}
 
 -- two digits: both have a value, or one has none
 module _ (word : List ℕ) (high : ℕ) (two : length word ≡ 2) (h : high ≡ hexDigit (byte word 0)) where

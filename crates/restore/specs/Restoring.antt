@@ -12,7 +12,7 @@ use Rattle.port.specs.declared.Serial.{Serial}
 use Rattle.port.specs.Records.{featureCount, freshPort}
 use Rattle.text.specs.Words.{ascii, newline, decimal}
 use Rattle.text.specs.Texts.{tab, digits16, digits32}
-use Rattle.scan.specs.Scans.{Scan, missing, found, andThen, pairScan, wordScan, numberScan, decimalScan, hexScan, serialScan, versionScan}
+use Rattle.scan.specs.Scans.{Scan, missing, found, thenScan, pairScan, wordScan, numberScan, decimalScan, hexScan, serialScan, versionScan}
 use Rattle.store.specs.Stores.{edition, padPort, indexLast}
 
 -- the byte after the index at a position: a tab, and after the last a newline
@@ -26,7 +26,7 @@ withIndex p = p .0 ++ (record { 0 = p .1 } ∷ [])
 unfoldable pub indexesScan : (count : ℕ) → List ℕ → Scan (List FeatureIndex)
 indexesScan zero text = found [] text
 indexesScan (suc count) text =
-    andThen (pairScan (indexesScan count) (decimalScan indexLast (stopAfter count)) text) λ p rest.
+    thenScan (pairScan (indexesScan count) (decimalScan indexLast (stopAfter count)) text) λ p rest.
     found (withIndex p) rest
 
 -- what follows the port in a line: WPID, serial, bitfield, version and indexes
@@ -43,7 +43,7 @@ portOf p = padPort (p .0) (p .1 .0) (p .1 .1 .0) (p .1 .1 .1 .0) (p .1 .1 .1 .1)
 -- the line of the device of a number
 unfoldable pub deviceScan : (number : ℕ) → List ℕ → Scan Port
 deviceScan number text =
-    andThen (pairScan (wordScan (decimal number ++ (tab ∷ []))) padScan text) λ p rest.
+    thenScan (pairScan (wordScan (decimal number ++ (tab ∷ []))) padScan text) λ p rest.
     found (portOf (p .1)) rest
 
 -- what a text is: a store of these ports, one of another edition, or a text whose line of this number is the first that breaks the rules

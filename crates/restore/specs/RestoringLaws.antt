@@ -19,7 +19,7 @@ use Rattle.port.specs.Records.{featureCount, freshPort}
 use Rattle.text.specs.Words.{ascii, newline, decimal}
 use Rattle.text.specs.WordsLaws.{decimal-last}
 use Rattle.text.specs.Texts.{tab, digits16, digits32}
-use Rattle.scan.specs.Scans.{Scan, missing, found, andThen, pairScan, wordScan, numberScan, decimalScan, digitsScan, digitMore, hexScan, serialScan, versionScan}
+use Rattle.scan.specs.Scans.{Scan, missing, found, thenScan, pairScan, wordScan, numberScan, decimalScan, digitsScan, digitMore, hexScan, serialScan, versionScan}
 use Rattle.scan.specs.ScanContracts.{scanned, Scans, capped, cappedScan}
 use Rattle.scan.specs.ScansLaws.{not-missing, same-value, same-rest, front, value-found, mapped, pair-scanned, capped-is, capped-small}
 use Rattle.scan.specs.ExactLaws.{low-digit}
@@ -192,17 +192,17 @@ abbrev cappedEdition : List ℕ → Scan (Unit {0} × ℕ)
 cappedEdition text = pairScan (wordScan name) (cappedScan newline) text
 
 abbrev capping : Scan (Unit {0} × ℕ) → Scan (Unit {0} × ℕ)
-capping x = andThen x λ p rest. found (p .0, capped (p .1)) rest
+capping x = thenScan x λ p rest. found (p .0, capped (p .1)) rest
 
 capped-edition : (text : List ℕ) → cappedEdition text ≡ capping (editionScan text)
 unfolding editionScan pairScan cappedScan
 capped-edition text = go (wordScan name text)
   where
-    number : (u : Unit {0}) (x : Scan ℕ) → _≡_ {A = Scan (Unit {0} × ℕ)} (andThen (andThen x (λ n rest. found (capped n) rest)) (λ n rest. found (u, n) rest)) (capping (andThen x (λ n rest. found (u, n) rest)))
+    number : (u : Unit {0}) (x : Scan ℕ) → _≡_ {A = Scan (Unit {0} × ℕ)} (thenScan (thenScan x (λ n rest. found (capped n) rest)) (λ n rest. found (u, n) rest)) (capping (thenScan x (λ n rest. found (u, n) rest)))
     number u missing = refl
     number u (found n rest) = refl
 
-    go : (x : Scan (Unit {0})) → _≡_ {A = Scan (Unit {0} × ℕ)} (andThen x (λ u rest. andThen (andThen (numberScan newline rest) (λ n rest. found (capped n) rest)) (λ n rest. found (u, n) rest))) (capping (andThen x (λ u rest. andThen (numberScan newline rest) (λ n rest. found (u, n) rest))))
+    go : (x : Scan (Unit {0})) → _≡_ {A = Scan (Unit {0} × ℕ)} (thenScan x (λ u rest. thenScan (thenScan (numberScan newline rest) (λ n rest. found (capped n) rest)) (λ n rest. found (u, n) rest))) (capping (thenScan x (λ u rest. thenScan (numberScan newline rest) (λ n rest. found (u, n) rest))))
     go missing = refl
     go (found u rest) = number u (numberScan newline rest)
 

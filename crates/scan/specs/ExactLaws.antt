@@ -16,9 +16,9 @@ use Rattle.port.specs.declared.Version.the-variants as versions
 use Rattle.port.specs.declared.Serial.{Serial}
 use Rattle.port.specs.declared.Serial.the-variants as serials
 use Rattle.text.specs.Texts.{digits32, versionText, serialText}
-use Rattle.text.specs.Words.{digit, hex, decimal}
+use Rattle.text.specs.Words.{digit, hex, decimal, isDigit}
 use Rattle.text.specs.WordsLaws.{decimal-last, decimal-more}
-use Rattle.scan.specs.Scans.{Scan, missing, found, andThen, pairScan, wordScan, stopped, isDigit, Run, runAfter, runStopped, numberScan, upTo, decimalScan, capitalDigit, digitMore, digitsScan, hexScan, dash, point, unknownOr, byteLast, knownSerial, serialScan, knownVersion, versionScan}
+use Rattle.scan.specs.Scans.{Scan, missing, found, thenScan, pairScan, wordScan, stopped, Run, runAfter, runStopped, numberScan, withinMost, decimalScan, capitalDigit, digitMore, digitsScan, hexScan, dash, point, unknownOr, byteLast, knownSerial, serialScan, knownVersion, versionScan}
 use Rattle.scan.specs.ScansLaws.{not-missing, same-value, same-rest}
 use Rattle.scan.specs.Exact.{Reads, SerialFits, VersionFits}
 
@@ -112,18 +112,18 @@ digit-read width before = record { sound = λ s a rest e. sound-by s (digitsScan
             let front = before .sound s u (c ∷ t) q in
             (omega (arith, front .0, value, small), front .1 ∙ sym (append-assoc (hex width u) (c ∷ []) t) ∙ (λ i. (hex width (sym high i) ++ ((sym (digit-of c small) ∙ ap digit (sym low)) i ∷ [])) ++ same-rest z i))
 
-    sound-by : (s : List ℕ) (x : Scan ℕ) → digitsScan width s ≡ x → (a : ℕ) (rest : List ℕ) → andThen x digitMore ≡ found a rest → (a < 16 ^ suc width) × (s ≡ hex (suc width) a ++ rest)
+    sound-by : (s : List ℕ) (x : Scan ℕ) → digitsScan width s ≡ x → (a : ℕ) (rest : List ℕ) → thenScan x digitMore ≡ found a rest → (a < 16 ^ suc width) × (s ≡ hex (suc width) a ++ rest)
     sound-by s missing q a rest e = absurd (not-missing (sym e))
     sound-by s (found u t) q a rest e = more s u t q a rest e
 
-    complete : (a : ℕ) → a < 16 ^ suc width → (rest : List ℕ) → andThen (digitsScan width (hex width (a / 16) ++ (digit (a % 16) ∷ []) ++ rest)) digitMore ≡ found a rest
+    complete : (a : ℕ) → a < 16 ^ suc width → (rest : List ℕ) → thenScan (digitsScan width (hex width (a / 16) ++ (digit (a % 16) ∷ []) ++ rest)) digitMore ≡ found a rest
     complete a h rest =
         let high : a / 16 < 16 ^ width = omega arith in
         let low : a % 16 < 16 = omega arith in
         let whole : a / 16 * 16 + a % 16 ≡ a = omega arith in
         let value : digitMore (a / 16) (digit (a % 16) ∷ rest) ≡ found (a / 16 * 16 + a % 16) rest = simp (capital-of (a % 16) low, lt-ltb (a % 16) 16 low) in
-        ap (λ (t : List ℕ). andThen (digitsScan width t) digitMore) (append-assoc (hex width (a / 16)) (digit (a % 16) ∷ []) rest)
-        ∙ ap (λ (x : Scan ℕ). andThen x digitMore) (before .complete (a / 16) high (digit (a % 16) ∷ rest))
+        ap (λ (t : List ℕ). thenScan (digitsScan width t) digitMore) (append-assoc (hex width (a / 16)) (digit (a % 16) ∷ []) rest)
+        ∙ ap (λ (x : Scan ℕ). thenScan x digitMore) (before .complete (a / 16) high (digit (a % 16) ∷ rest))
         ∙ value
         ∙ ap (λ (n : ℕ). found n rest) whole
 
@@ -151,14 +151,14 @@ stop-here : {A : Type 0} (stop : ℕ) (value : A) (rest : List ℕ) → stopped 
 unfolding stopped
 stop-here stop value rest = simp (eq-eqb stop stop refl)
 
-pub stop-read : {A : Type 0} {Fits : A → Type 0} {text : A → List ℕ} {rule : List ℕ → Scan A} (stop : ℕ) → Reads Fits text rule → Reads Fits (λ (a : A). text a ++ (stop ∷ [])) (λ (s : List ℕ). andThen (rule s) (stopped stop))
+pub stop-read : {A : Type 0} {Fits : A → Type 0} {text : A → List ℕ} {rule : List ℕ → Scan A} (stop : ℕ) → Reads Fits text rule → Reads Fits (λ (a : A). text a ++ (stop ∷ [])) (λ (s : List ℕ). thenScan (rule s) (stopped stop))
 stop-read {A} {Fits} {text} {rule} stop r =
     record {
       sound = λ s a rest e. by s (rule s) refl a rest e;
-      complete = λ a h rest. ap (λ (t : List ℕ). andThen (rule t) (stopped stop)) (append-assoc (text a) (stop ∷ []) rest) ∙ ap (λ (x : Scan A). andThen x (stopped stop)) (r .complete a h (stop ∷ rest)) ∙ stop-here stop a rest;
+      complete = λ a h rest. ap (λ (t : List ℕ). thenScan (rule t) (stopped stop)) (append-assoc (text a) (stop ∷ []) rest) ∙ ap (λ (x : Scan A). thenScan x (stopped stop)) (r .complete a h (stop ∷ rest)) ∙ stop-here stop a rest;
     }
   where
-    by : (s : List ℕ) (x : Scan A) → rule s ≡ x → (a : A) (rest : List ℕ) → andThen x (stopped stop) ≡ found a rest → Fits a × (s ≡ (text a ++ (stop ∷ [])) ++ rest)
+    by : (s : List ℕ) (x : Scan A) → rule s ≡ x → (a : A) (rest : List ℕ) → thenScan x (stopped stop) ≡ found a rest → Fits a × (s ≡ (text a ++ (stop ∷ [])) ++ rest)
     by s missing q a rest e = absurd (not-missing (sym e))
     by s (found u t) q a rest e =
         let z = stop-is stop u t e in
@@ -304,13 +304,13 @@ unfolding decimalScan
 decimal-read most stop none =
     record {
       sound = λ s a rest e. by s (numberScan stop s) refl a rest e;
-      complete = λ a h rest. ap (λ (x : Scan ℕ). andThen x (upTo most)) (any .complete a tt rest) ∙ simp (le-leb a most h);
+      complete = λ a h rest. ap (λ (x : Scan ℕ). thenScan x (withinMost most)) (any .complete a tt rest) ∙ simp (le-leb a most h);
     }
   where
     any : Reads (λ (n : ℕ). Unit {0}) (λ (n : ℕ). decimal n ++ (stop ∷ [])) (numberScan stop)
     any = number-read stop none
 
-    by : (s : List ℕ) (x : Scan ℕ) → numberScan stop s ≡ x → (a : ℕ) (rest : List ℕ) → andThen x (upTo most) ≡ found a rest → (a ≤ most) × (s ≡ (decimal a ++ (stop ∷ [])) ++ rest)
+    by : (s : List ℕ) (x : Scan ℕ) → numberScan stop s ≡ x → (a : ℕ) (rest : List ℕ) → thenScan x (withinMost most) ≡ found a rest → (a ≤ most) × (s ≡ (decimal a ++ (stop ∷ [])) ++ rest)
     by s missing q a rest e = absurd (not-missing (sym e))
     by s (found n t) q a rest e = go (leb n most) refl e
       where
@@ -325,7 +325,7 @@ unfolding pairScan
 pair-read {A} {B} {FitsA} {FitsB} {textA} {textB} {first} {second} r q =
     record { sound = λ s p rest e. by s (first s) refl p rest e; complete = complete }
   where
-    after : (s : List ℕ) (a : A) (t : List ℕ) → first s ≡ found a t → (x : Scan B) → second t ≡ x → (p : A × B) (rest : List ℕ) → _≡_ {A = Scan (A × B)} (andThen x (λ b rest. found (a, b) rest)) (found p rest) → (FitsA (p .0) × FitsB (p .1)) × (s ≡ (textA (p .0) ++ textB (p .1)) ++ rest)
+    after : (s : List ℕ) (a : A) (t : List ℕ) → first s ≡ found a t → (x : Scan B) → second t ≡ x → (p : A × B) (rest : List ℕ) → _≡_ {A = Scan (A × B)} (thenScan x (λ b rest. found (a, b) rest)) (found p rest) → (FitsA (p .0) × FitsB (p .1)) × (s ≡ (textA (p .0) ++ textB (p .1)) ++ rest)
     after s a t f missing g p rest e = absurd (not-missing (sym e))
     after s a t f (found b u) g p rest e =
         let is : _≡_ {A = A × B} (a, b) p = same-value e in
@@ -334,15 +334,15 @@ pair-read {A} {B} {FitsA} {FitsB} {textA} {textB} {first} {second} r q =
         let z : s ≡ (textA a ++ textB b) ++ rest = x .1 ∙ ap (λ (l : List ℕ). textA a ++ l) (y .1 ∙ ap (λ (l : List ℕ). textB b ++ l) (same-rest e)) ∙ sym (append-assoc (textA a) (textB b) rest) in
         subst (λ (o : A × B). (FitsA (o .0) × FitsB (o .1)) × (s ≡ (textA (o .0) ++ textB (o .1)) ++ rest)) is ((x .0, y .0), z)
 
-    by : (s : List ℕ) (x : Scan A) → first s ≡ x → (p : A × B) (rest : List ℕ) → _≡_ {A = Scan (A × B)} (andThen x (λ a rest. andThen (second rest) (λ b rest. found (a, b) rest))) (found p rest) → (FitsA (p .0) × FitsB (p .1)) × (s ≡ (textA (p .0) ++ textB (p .1)) ++ rest)
+    by : (s : List ℕ) (x : Scan A) → first s ≡ x → (p : A × B) (rest : List ℕ) → _≡_ {A = Scan (A × B)} (thenScan x (λ a rest. thenScan (second rest) (λ b rest. found (a, b) rest))) (found p rest) → (FitsA (p .0) × FitsB (p .1)) × (s ≡ (textA (p .0) ++ textB (p .1)) ++ rest)
     by s missing f p rest e = absurd (not-missing (sym e))
     by s (found a t) f p rest e = after s a t f (second t) refl p rest e
 
-    complete : (p : A × B) → FitsA (p .0) × FitsB (p .1) → (rest : List ℕ) → _≡_ {A = Scan (A × B)} (andThen (first ((textA (p .0) ++ textB (p .1)) ++ rest)) (λ a rest. andThen (second rest) (λ b rest. found (a, b) rest))) (found p rest)
+    complete : (p : A × B) → FitsA (p .0) × FitsB (p .1) → (rest : List ℕ) → _≡_ {A = Scan (A × B)} (thenScan (first ((textA (p .0) ++ textB (p .1)) ++ rest)) (λ a rest. thenScan (second rest) (λ b rest. found (a, b) rest))) (found p rest)
     complete p h rest =
-        ap (λ (t : List ℕ). andThen (first t) (λ a rest. andThen (second rest) (λ b rest. found (a, b) rest))) (append-assoc (textA (p .0)) (textB (p .1)) rest)
-        ∙ ap (λ (x : Scan A). andThen x (λ a rest. andThen (second rest) (λ b rest. found (a, b) rest))) (r .complete (p .0) (h .0) (textB (p .1) ++ rest))
-        ∙ ap (λ (x : Scan B). andThen x (λ b rest. found (p .0, b) rest)) (q .complete (p .1) (h .1) rest)
+        ap (λ (t : List ℕ). thenScan (first t) (λ a rest. thenScan (second rest) (λ b rest. found (a, b) rest))) (append-assoc (textA (p .0)) (textB (p .1)) rest)
+        ∙ ap (λ (x : Scan A). thenScan x (λ a rest. thenScan (second rest) (λ b rest. found (a, b) rest))) (r .complete (p .0) (h .0) (textB (p .1) ++ rest))
+        ∙ ap (λ (x : Scan B). thenScan x (λ b rest. found (p .0, b) rest)) (q .complete (p .1) (h .1) rest)
 
 -- a word
 pub word-read : (word : List ℕ) → Reads (λ (u : Unit {0}). Unit {0}) (λ (u : Unit {0}). word) (wordScan word)
@@ -391,10 +391,10 @@ module _ {A : Type 0} {Fits : A → Type 0} {text : A → List ℕ} (stop : ℕ)
       written a rest (inr e) = begins (text a ++ rest) a rest e
 
 -- a value made of the one that is found
-mapped-sound : {A B : Type 0} (g : A → B) (rule : List ℕ → Scan A) (s : List ℕ) {b : B} {rest : List ℕ} → andThen (rule s) (λ a rest. found (g a) rest) ≡ found b rest → (a : A) × ((rule s ≡ found a rest) × (g a ≡ b))
+mapped-sound : {A B : Type 0} (g : A → B) (rule : List ℕ → Scan A) (s : List ℕ) {b : B} {rest : List ℕ} → thenScan (rule s) (λ a rest. found (g a) rest) ≡ found b rest → (a : A) × ((rule s ≡ found a rest) × (g a ≡ b))
 mapped-sound {A} {B} g rule s {b} {rest} e = go (rule s) refl e
   where
-    go : (x : Scan A) → rule s ≡ x → andThen x (λ a rest. found (g a) rest) ≡ found b rest → (a : A) × ((rule s ≡ found a rest) × (g a ≡ b))
+    go : (x : Scan A) → rule s ≡ x → thenScan x (λ a rest. found (g a) rest) ≡ found b rest → (a : A) × ((rule s ≡ found a rest) × (g a ≡ b))
     go missing q z = absurd (not-missing (sym z))
     go (found a t) q z = (a, (q ∙ ap (found a) (same-rest z), same-value z))
 
@@ -414,7 +414,7 @@ serial-read stop = unknown-read stop serials.Unknown (knownSerial stop) tt refl 
     complete : (x : Serial) → SerialFits x → (rest : List ℕ) → (x ≡ serials.Unknown) ⊎ (knownSerial stop ((serialText x ++ (stop ∷ [])) ++ rest) ≡ found x rest)
     complete serials.Unknown h rest = inl refl
     complete (serials.Known n) h rest =
-        inr (ap (λ (y : Scan ℕ). andThen y λ number rest. found (serials.Known number) rest) (number .complete n h rest))
+        inr (ap (λ (y : Scan ℕ). thenScan y λ number rest. found (serials.Known number) rest) (number .complete n h rest))
 
 pub version-read : (stop : ℕ) → isDigit stop ≡ false → Reads VersionFits (λ (x : Version). versionText x ++ (stop ∷ [])) (versionScan stop)
 unfolding versionScan knownVersion versionText pairScan decimalScan numberScan
@@ -436,4 +436,4 @@ version-read stop none = unknown-read stop versions.Unknown (knownVersion stop) 
     complete : (x : Version) → VersionFits x → (rest : List ℕ) → (x ≡ versions.Unknown) ⊎ (knownVersion stop ((versionText x ++ (stop ∷ [])) ++ rest) ≡ found x rest)
     complete versions.Unknown h rest = inl refl
     complete (versions.Known a b) h rest =
-        inr (ap (λ (l : List ℕ). knownVersion stop (l ++ rest)) (sym (same-text a b)) ∙ ap (λ (y : Scan (ℕ × ℕ)). andThen y λ p rest. found (versions.Known (p .0) (p .1)) rest) (parts .complete (a, b) h rest))
+        inr (ap (λ (l : List ℕ). knownVersion stop (l ++ rest)) (sym (same-text a b)) ∙ ap (λ (y : Scan (ℕ × ℕ)). thenScan y λ p rest. found (versions.Known (p .0) (p .1)) rest) (parts .complete (a, b) h rest))

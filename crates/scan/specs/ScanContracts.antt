@@ -5,7 +5,7 @@ use mathlib.Core.Bool.{Bool, true, false, cond}
 use mathlib.Core.List.{List, [], _∷_}
 use lib.Dec.{ltb, eqb}
 use lib.ListN.{length, drop}
-use Rattle.scan.specs.Scans.{Scan, missing, found, andThen, Run, numberScan, capitalDigit}
+use Rattle.scan.specs.Scans.{Scan, missing, found, thenScan, Run, numberScan, capitalDigit}
 
 -- a value, and the text after it, or nothing
 abbrev pub scanned : {A : Type 0} → Bool → A → List ℕ → Scan A
@@ -31,7 +31,7 @@ unfoldable pub capped : ℕ → ℕ
 capped n = cond (ltb n tooLarge) n tooLarge
 
 unfoldable pub cappedScan : (stop : ℕ) → List ℕ → Scan ℕ
-cappedScan stop text = andThen (numberScan stop text) λ n rest. found (capped n) rest
+cappedScan stop text = thenScan (numberScan stop text) λ n rest. found (capped n) rest
 
 -- digits that the program went over: the number, too large or not, and the offset after them
 pub record Runs (run : Run) (text : List ℕ) (value next : ℕ) : Type 0 where

@@ -1,6 +1,6 @@
 -- Document 02, Ask 3: numbers and fields read from the front of a text.
 use Prim.Native.Nat.{ℕ, zero, suc, _+_, _-_, _*_}
-use mathlib.Core.Bool.{Bool, cond}
+use mathlib.Core.Bool.{cond}
 use mathlib.Core.List.{List, [], _∷_}
 use lib.Dec.{leb, ltb, eqb}
 use Rattle.report.specs.Ports.{inRange}
@@ -8,6 +8,7 @@ use Rattle.port.specs.declared.Version.{Version}
 use Rattle.port.specs.declared.Version.the-variants as versions
 use Rattle.port.specs.declared.Serial.{Serial}
 use Rattle.port.specs.declared.Serial.the-variants as serials
+use Rattle.text.specs.Words.{isDigit}
 use Rattle.text.specs.Texts.{digits32}
 
 -- what is found at the front of a text: a value, and the text after it; or nothing
@@ -15,15 +16,15 @@ pub data Scan (A : Type 0) : Type 0 where
   missing : Scan A
   found : (value : A) (rest : List ℕ) → Scan A
 
-abbrev pub andThen : {A B : Type 0} → Scan A → (A → List ℕ → Scan B) → Scan B
-andThen missing next = missing
-andThen (found value rest) next = next value rest
+abbrev pub thenScan : {A B : Type 0} → Scan A → (A → List ℕ → Scan B) → Scan B
+thenScan missing next = missing
+thenScan (found value rest) next = next value rest
 
 -- one value, and after it another
 unfoldable pub pairScan : {A B : Type 0} → (List ℕ → Scan A) → (List ℕ → Scan B) → List ℕ → Scan (A × B)
 pairScan first second text =
-    andThen (first text) λ a rest.
-    andThen (second rest) λ b rest.
+    thenScan (first text) λ a rest.
+    thenScan (second rest) λ b rest.
     found (a, b) rest
 
 -- the bytes of a word
@@ -36,10 +37,6 @@ wordScan (w ∷ word) (c ∷ text) = cond (eqb c w) (wordScan word text) missing
 unfoldable pub stopped : {A : Type 0} → (stop : ℕ) → A → List ℕ → Scan A
 stopped stop value [] = missing
 stopped stop value (c ∷ text) = cond (eqb c stop) (found value text) missing
-
--- '0' to '9'
-abbrev pub isDigit : ℕ → Bool
-isDigit c = inRange 48 c 57
 
 -- digits, after those that came to n, up to the first byte that is none: the number, and the text after them
 pub record Run : Type 0 where
@@ -61,12 +58,12 @@ numberScan stop (c ∷ text) =
     (cond (eqb c 48) (stopped stop 0 text) (runStopped stop (runAfter (c - 48) text)))
     missing
 
-abbrev pub upTo : (most : ℕ) → ℕ → List ℕ → Scan ℕ
-upTo most n rest = cond (leb n most) (found n rest) missing
+abbrev pub withinMost : (most : ℕ) → ℕ → List ℕ → Scan ℕ
+withinMost most n rest = cond (leb n most) (found n rest) missing
 
 -- one that is at most `most`
 unfoldable pub decimalScan : (most stop : ℕ) → List ℕ → Scan ℕ
-decimalScan most stop text = andThen (numberScan stop text) (upTo most)
+decimalScan most stop text = thenScan (numberScan stop text) (withinMost most)
 
 -- '0' to '9' and 'A' to 'F'; 16 where the byte is no digit
 unfoldable pub capitalDigit : ℕ → ℕ
@@ -80,11 +77,11 @@ digitMore n (c ∷ text) = cond (ltb (capitalDigit c) 16) (found (n * 16 + capit
 -- hexadecimal in capitals at a fixed width
 unfoldable pub digitsScan : (width : ℕ) → List ℕ → Scan ℕ
 digitsScan zero text = found 0 text
-digitsScan (suc width) text = andThen (digitsScan width text) digitMore
+digitsScan (suc width) text = thenScan (digitsScan width text) digitMore
 
 -- the same, and the byte after it
 unfoldable pub hexScan : (width stop : ℕ) → List ℕ → Scan ℕ
-hexScan width stop text = andThen (digitsScan width text) (stopped stop)
+hexScan width stop text = thenScan (digitsScan width text) (stopped stop)
 
 -- '-' stands for what is unknown
 abbrev pub dash : ℕ
@@ -101,7 +98,7 @@ unknownOr stop unknown known (c ∷ text) = cond (eqb c dash) (stopped stop unkn
 
 -- eight digits
 unfoldable pub knownSerial : (stop : ℕ) → List ℕ → Scan Serial
-knownSerial stop text = andThen (hexScan digits32 stop text) λ number rest. found (serials.Known number) rest
+knownSerial stop text = thenScan (hexScan digits32 stop text) λ number rest. found (serials.Known number) rest
 
 unfoldable pub serialScan : (stop : ℕ) → List ℕ → Scan Serial
 serialScan stop text = unknownOr stop serials.Unknown (knownSerial stop) text
@@ -113,7 +110,7 @@ byteLast = 255
 -- major.minor, each at most 255
 unfoldable pub knownVersion : (stop : ℕ) → List ℕ → Scan Version
 knownVersion stop text =
-    andThen (pairScan (decimalScan byteLast point) (decimalScan byteLast stop) text) λ parts rest.
+    thenScan (pairScan (decimalScan byteLast point) (decimalScan byteLast stop) text) λ parts rest.
     found (versions.Known (parts .0) (parts .1)) rest
 
 unfoldable pub versionScan : (stop : ℕ) → List ℕ → Scan Version

@@ -11,7 +11,8 @@ use lib.ListN.{length, getD, drop, drop-of-length-le}
 use lib.Seq.{drop-cons, drop-drop, drop-length}
 use borrow.Author.Tests.{eqb-true, eq-eqb, ne-eqb, lt-ltb, le-ltb, le-leb, lt-leb, ltb-true, ltb-false}
 use Rattle.text.specs.Texts.{digits32}
-use Rattle.scan.specs.Scans.{Scan, missing, found, andThen, pairScan, wordScan, stopped, isDigit, Run, runAfter, numberScan, upTo, decimalScan, capitalDigit, digitMore, digitsScan, hexScan, dash, unknownOr}
+use Rattle.text.specs.Words.{isDigit}
+use Rattle.scan.specs.Scans.{Scan, missing, found, thenScan, pairScan, wordScan, stopped, Run, runAfter, numberScan, withinMost, decimalScan, capitalDigit, digitMore, digitsScan, hexScan, dash, unknownOr}
 use Rattle.scan.specs.ScanContracts.{scanned, Scans, Nothing, tooLarge, capped, cappedScan, Runs, frontIs, frontDigit}
 
 -- what is found is not nothing
@@ -80,21 +81,21 @@ module _ {A : Type 0} (stop : ℕ) (value : A) (text : List ℕ) (at : ℕ) wher
       go (c ∷ s) q = simp q
 
 -- another value before the same byte
-pub stopped-as : {A B : Type 0} (stop : ℕ) (a : A) (b : B) (s : List ℕ) → andThen (stopped stop a s) (λ x rest. found b rest) ≡ stopped stop b s
+pub stopped-as : {A B : Type 0} (stop : ℕ) (a : A) (b : B) (s : List ℕ) → thenScan (stopped stop a s) (λ x rest. found b rest) ≡ stopped stop b s
 unfolding stopped
 stopped-as stop a b [] = refl
 stopped-as stop a b (c ∷ s) = go (eqb c stop)
   where
-    go : (t : Bool) → andThen (cond t (found a s) missing) (λ x rest. found b rest) ≡ cond t (found b s) missing
+    go : (t : Bool) → thenScan (cond t (found a s) missing) (λ x rest. found b rest) ≡ cond t (found b s) missing
     go true = refl
     go false = refl
 
 -- a value made of the one that is found
-pub mapped : {A B : Type 0} (g : A → B) {rule : List ℕ → Scan A} {text : List ℕ} {at : ℕ} {isFound : Bool} {value : A} {next : ℕ} → Scans rule text at isFound value next → Scans (λ (t : List ℕ). andThen (rule t) λ x rest. found (g x) rest) text at isFound (g value) next
+pub mapped : {A B : Type 0} (g : A → B) {rule : List ℕ → Scan A} {text : List ℕ} {at : ℕ} {isFound : Bool} {value : A} {next : ℕ} → Scans rule text at isFound value next → Scans (λ (t : List ℕ). thenScan (rule t) λ x rest. found (g x) rest) text at isFound (g value) next
 mapped {A} {B} g {rule} {text} {at} {isFound} {value} {next} s =
-    record { so = go isFound ∙ ap (λ (x : Scan A). andThen x λ a rest. found (g a) rest) (s .so); end = s .end }
+    record { so = go isFound ∙ ap (λ (x : Scan A). thenScan x λ a rest. found (g a) rest) (s .so); end = s .end }
   where
-    go : (b : Bool) → scanned b (g value) (drop next text) ≡ andThen (scanned b value (drop next text)) (λ a rest. found (g a) rest)
+    go : (b : Bool) → scanned b (g value) (drop next text) ≡ thenScan (scanned b value (drop next text)) (λ a rest. found (g a) rest)
     go true = refl
     go false = refl
 
@@ -103,16 +104,16 @@ pub pair-scanned : {A B : Type 0} {first : List ℕ → Scan A} {second : List �
 unfolding pairScan
 pair-scanned {A} {B} {first} {second} {text} {at} {f} {g} {a} {b} {m} {n} none p q = record { so = go f refl (p .so); end = q .end }
   where
-    both : (x : Bool) → scanned {A = A × B} x (a, b) (drop n text) ≡ andThen (scanned x b (drop n text)) (λ y rest. found (a, y) rest)
+    both : (x : Bool) → scanned {A = A × B} x (a, b) (drop n text) ≡ thenScan (scanned x b (drop n text)) (λ y rest. found (a, y) rest)
     both true = refl
     both false = refl
 
-    go : (x : Bool) → f ≡ x → scanned x a (drop m text) ≡ first (drop at text) → scanned {A = A × B} g (a, b) (drop n text) ≡ andThen (first (drop at text)) (λ u rest. andThen (second rest) (λ v rest. found (u, v) rest))
+    go : (x : Bool) → f ≡ x → scanned x a (drop m text) ≡ first (drop at text) → scanned {A = A × B} g (a, b) (drop n text) ≡ thenScan (first (drop at text)) (λ u rest. thenScan (second rest) (λ v rest. found (u, v) rest))
     go true e so =
-        both g ∙ ap (λ (y : Scan B). andThen y λ v rest. found (a, v) rest) (q .so) ∙ ap (λ (x : Scan A). andThen x λ u rest. andThen (second rest) λ v rest. found (u, v) rest) so
+        both g ∙ ap (λ (y : Scan B). thenScan y λ v rest. found (a, v) rest) (q .so) ∙ ap (λ (x : Scan A). thenScan x λ u rest. thenScan (second rest) λ v rest. found (u, v) rest) so
     go false e so =
         let last : second (drop m text) ≡ missing = ap second (ap (λ (k : ℕ). drop k text) (p .end e) ∙ drop-length text) ∙ none in
-        both g ∙ ap (λ (y : Scan B). andThen y λ v rest. found (a, v) rest) (q .so ∙ last) ∙ ap (λ (x : Scan A). andThen x λ u rest. andThen (second rest) λ v rest. found (u, v) rest) so
+        both g ∙ ap (λ (y : Scan B). thenScan y λ v rest. found (a, v) rest) (q .so ∙ last) ∙ ap (λ (x : Scan A). thenScan x λ u rest. thenScan (second rest) λ v rest. found (u, v) rest) so
 
 -- the first i bytes of a word have been found
 pub record Matched (text : List ℕ) (at : ℕ) (word : List ℕ) (next i : ℕ) : Type 0 where
@@ -221,18 +222,18 @@ module _ (text : List ℕ) (at first : ℕ) where
         record { counted = s .counted ∙ ap (λ (r : Run). capped (r .value)) e; so = none ∙ ap (λ (r : Run). r .rest) e }
 
 -- a number and the byte after it
-capped-stop : (stop n : ℕ) (s : List ℕ) → stopped stop (capped n) s ≡ andThen (stopped stop n s) (λ m rest. found (capped m) rest)
+capped-stop : (stop n : ℕ) (s : List ℕ) → stopped stop (capped n) s ≡ thenScan (stopped stop n s) (λ m rest. found (capped m) rest)
 unfolding stopped
 capped-stop stop n [] = refl
 capped-stop stop n (c ∷ s) = go (eqb c stop)
   where
-    go : (t : Bool) → cond t (found (capped n) s) missing ≡ andThen (cond t (found n s) missing) (λ m rest. found (capped m) rest)
+    go : (t : Bool) → cond t (found (capped n) s) missing ≡ thenScan (cond t (found n s) missing) (λ m rest. found (capped m) rest)
     go true = refl
     go false = refl
 
 module _ (stop : ℕ) (text : List ℕ) (at : ℕ) where
   abbrev capping : Scan ℕ → Scan ℕ
-  capping x = andThen x λ n rest. found (capped n) rest
+  capping x = thenScan x λ n rest. found (capped n) rest
 
   pub number-zero : {f : Bool} {v n : ℕ} → at < length text → getD text at 0 ≡ 48 → Scans (stopped stop 0) text (at + 1) f v n → Scans (cappedScan stop) text at f v n
   unfolding cappedScan numberScan capped
@@ -259,14 +260,14 @@ module _ (stop : ℕ) (text : List ℕ) (at : ℕ) where
 
   -- one that is at most a bound
   module _ (most : ℕ) (small : most < tooLarge) where
-    within-bound : (x : Scan ℕ) {v : ℕ} {rest : List ℕ} → found v rest ≡ capping x → v ≤ most → andThen x (upTo most) ≡ found v rest
+    within-bound : (x : Scan ℕ) {v : ℕ} {rest : List ℕ} → found v rest ≡ capping x → v ≤ most → thenScan x (withinMost most) ≡ found v rest
     within-bound missing e h = absurd (not-missing e)
     within-bound (found m r) {v} {rest} e h =
         let is : m ≡ v = capped-is m v most (sym (same-value e)) h small in
         let fits : m ≤ most = omega (arith, is, h) in
         simp (le-leb m most fits) (λ i. found (is i) (sym (same-rest e) i))
 
-    above-bound : (x : Scan ℕ) {v : ℕ} {rest : List ℕ} → found v rest ≡ capping x → most < v → andThen x (upTo most) ≡ missing
+    above-bound : (x : Scan ℕ) {v : ℕ} {rest : List ℕ} → found v rest ≡ capping x → most < v → thenScan x (withinMost most) ≡ missing
     above-bound missing e h = refl
     above-bound (found m r) {v} e h = simp (lt-leb m most (over (ltb m tooLarge) refl))
       where
@@ -274,7 +275,7 @@ module _ (stop : ℕ) (text : List ℕ) (at : ℕ) where
         over true q = let z : v ≡ m = same-value e ∙ capped-small m (ltb-true _ _ q) in omega (arith, z, h)
         over false q = let z : tooLarge ≤ m = ltb-false _ _ q in omega (arith, small)
 
-    no-bound : (x : Scan ℕ) → missing ≡ capping x → andThen x (upTo most) ≡ missing
+    no-bound : (x : Scan ℕ) → missing ≡ capping x → thenScan x (withinMost most) ≡ missing
     no-bound missing e = refl
     no-bound (found m r) e = absurd (not-missing (sym e))
 
@@ -325,7 +326,7 @@ gone : (s : List ℕ) (i more : ℕ) → digitsScan i s ≡ missing → digitsSc
 unfolding digitsScan
 gone s i zero e = ap (λ (k : ℕ). digitsScan k s) (zero-add i) ∙ e
 gone s i (suc more) e =
-    ap (λ (k : ℕ). digitsScan k s) (suc-add more i) ∙ ap (λ (x : Scan ℕ). andThen x digitMore) (gone s i more e)
+    ap (λ (k : ℕ). digitsScan k s) (suc-add more i) ∙ ap (λ (x : Scan ℕ). thenScan x digitMore) (gone s i more e)
 
 module _ (text : List ℕ) (at width stop : ℕ) where
   pub hex-begun : Hexed text at width 0 at 0
@@ -335,7 +336,7 @@ module _ (text : List ℕ) (at width stop : ℕ) where
   module _ {value next i d : ℕ} (s : Hexed text at width value next i) (e : d ≡ frontDigit (drop next text)) where
     one-more : digitsScan (suc i) (drop at text) ≡ digitMore value (drop next text)
     unfolding digitsScan
-    one-more = ap (λ (x : Scan ℕ). andThen x digitMore) (s .so)
+    one-more = ap (λ (x : Scan ℕ). thenScan x digitMore) (s .so)
 
     pub hex-more : i < width → d < 16 → Hexed text at width (value * 16 + d) (next + 1) (i + 1)
     unfolding digitMore frontDigit
@@ -361,7 +362,7 @@ module _ (text : List ℕ) (at width stop : ℕ) where
     hex-missing h l n =
         let fails : digitsScan (suc i) (drop at text) ≡ missing = one-more ∙ go (drop next text) e in
         let all : width ≡ (width - suc i) + suc i = omega arith in
-        nothing-found (hexScan width stop) text at n (ap (λ (x : Scan ℕ). andThen x (stopped stop)) (ap (λ (k : ℕ). digitsScan k (drop at text)) all ∙ gone (drop at text) (suc i) (width - suc i) fails))
+        nothing-found (hexScan width stop) text at n (ap (λ (x : Scan ℕ). thenScan x (stopped stop)) (ap (λ (k : ℕ). digitsScan k (drop at text)) all ∙ gone (drop at text) (suc i) (width - suc i) fails))
       where
         go : (t : List ℕ) → d ≡ frontDigit t → digitMore value t ≡ missing
         go [] z = refl
@@ -371,7 +372,7 @@ module _ (text : List ℕ) (at width stop : ℕ) where
   unfolding hexScan
   hex-done {value} {next} {i} s h r =
       let all : i ≡ width = omega (arith, s .within) in
-      as-rule (ap (λ (x : Scan ℕ). andThen x (stopped stop)) (sym (s .so) ∙ ap (λ (k : ℕ). digitsScan k (drop at text)) all)) r
+      as-rule (ap (λ (x : Scan ℕ). thenScan x (stopped stop)) (sym (s .so) ∙ ap (λ (k : ℕ). digitsScan k (drop at text)) all)) r
 
 -- a value of fewer than eight digits has room for another
 pub hex-room : {text : List ℕ} {at width value next i : ℕ} → Hexed text at width value next i → i < width → width ≤ digits32 → value * 16 + 15 < 4294967296
@@ -391,7 +392,7 @@ hex-kept {text} {at} {width} {value} {next} {i} {v} s h l =
 module _ {A : Type 0} (stop : ℕ) (unknown : A) (known : List ℕ → Scan A) (text : List ℕ) (at : ℕ) where
   pub unknown-scanned : {f : Bool} {v n : ℕ} → frontIs dash (drop at text) ≡ true → Scans (stopped stop 0) text (at + 1) f v n → Scans (unknownOr stop unknown known) text at f unknown n
   unknown-scanned {f} {v} {n} e s =
-      let is : andThen (stopped {A = ℕ} stop 0 (drop (at + 1) text)) (λ x rest. found unknown rest) ≡ unknownOr stop unknown known (drop at text) = stopped-as {A = ℕ} stop 0 unknown (drop (at + 1) text) ∙ ap (unknownOr stop unknown known) (sym (front-cons dash text at e)) in
+      let is : thenScan (stopped {A = ℕ} stop 0 (drop (at + 1) text)) (λ x rest. found unknown rest) ≡ unknownOr stop unknown known (drop at text) = stopped-as {A = ℕ} stop 0 unknown (drop (at + 1) text) ∙ ap (unknownOr stop unknown known) (sym (front-cons dash text at e)) in
       let m = mapped (λ (x : ℕ). unknown) s in
       record { so = m .so ∙ is; end = m .end }
 

@@ -13,7 +13,7 @@ use Rattle.port.specs.declared.Serial.{Serial}
 use Rattle.port.specs.declared.Battery.the-variants as batteries
 use Rattle.port.specs.Records.{placeCount, featureCount, emptyPlace, freshPort}
 use Rattle.text.specs.Words.{ascii, hex, decimal}
-use Rattle.text.specs.Texts.{tabbed, pairedLines, digits16, digits32, byteMost, versionText, versionMost, serialText, serialMost}
+use Rattle.text.specs.Texts.{tab, tabbed, pairedLines, digits16, digits32, byteMost, versionText, versionMost, serialText, serialMost}
 use Rattle.scan.specs.Exact.{SerialFits, VersionFits}
 
 -- the edition that is written
@@ -38,6 +38,10 @@ padLine number p =
     ∷ hex digits32 (p .reports)
     ∷ versionText (p .version)
     ∷ indexFields (p .features))
+
+-- an index after another field: a tab before it
+abbrev pub indexText : (position : ℕ) → FeatureIndex → List ℕ
+indexText position index = tab ∷ decimal (index .0)
 
 -- a tab and an index at most
 abbrev pub indexMost : ℕ
@@ -71,8 +75,8 @@ padPort wpid serial reports version features =
     }
 
 -- what a store keeps of a port: of a paired device these, and of any other nothing
-unfoldable pub kept : Port → Port
-kept p =
+unfoldable pub storedOf : Port → Port
+storedOf p =
     cond (p .paired) (padPort (p .wpid) (p .serial) (p .reports) (p .version) (p .features)) freshPort
 
 -- the largest feature index
@@ -96,7 +100,7 @@ pub record PadFits (p : Port) : Type 0 where
 -- a device as a store has it: it is unpaired, and all of it as fresh, or it is paired, and all but these as fresh
 pub record StoredDevice (p : Port) : Type 0 where
   pub fits : p .paired ≡ true → PadFits p
-  pub rest : p ≡ kept p
+  pub rest : p ≡ storedOf p
 
 unfoldable pub AllStored : List Port → Type 0
 AllStored [] = Unit

@@ -6,11 +6,7 @@ use Rattle.report.specs.declared.FeatureIndex.{FeatureIndex}
 use Rattle.port.specs.declared.Port.{Port}
 use Rattle.text.specs.Words.{newline, hex, decimal}
 use Rattle.text.specs.Texts.{eachFrom, each, tab, tabbed, digits16, digits32, versionText, serialText}
-use Rattle.store.specs.Stores.{indexFields, padLine}
-
--- the text of an index after a field
-abbrev pub indexText : ℕ → FeatureIndex → List ℕ
-indexText position index = tab ∷ decimal (index .0)
+use Rattle.store.specs.Stores.{indexFields, indexText, padLine}
 
 -- a field, and then the indexes
 pub indexes-after : (n : ℕ) (field : List ℕ) (features : List FeatureIndex) → tabbed (field ∷ indexFields features) ≡ field ++ (eachFrom indexText n features ++ (newline ∷ []))

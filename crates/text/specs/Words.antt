@@ -3,9 +3,10 @@ use Prim.Native.Nat.{ℕ, zero, suc, _/_, _%_}
 use Prim.Native.Char.{code}
 use Prim.Native.String as strings
 use mathlib.Core.List.{List, [], _∷_, _++_}
-use mathlib.Core.Bool.{cond}
+use mathlib.Core.Bool.{Bool, cond}
 use lib.ListN.{getD}
 use lib.Dec.{ltb}
+use Rattle.report.specs.Ports.{inRange}
 
 -- the bytes of a word
 abbrev pub ascii : strings.String → List ℕ
@@ -19,6 +20,10 @@ newline = 10
 -- one digit, hexadecimal in capitals
 unfoldable pub digit : ℕ → ℕ
 digit n = getD (ascii "0123456789ABCDEF") n 0
+
+-- '0' to '9'
+abbrev pub isDigit : ℕ → Bool
+isDigit c = inRange 48 c 57
 
 -- hexadecimal at a fixed width
 unfoldable pub hex : (width : ℕ) → ℕ → List ℕ

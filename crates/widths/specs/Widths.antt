@@ -8,7 +8,7 @@ use Rattle.port.specs.declared.Version.{Version}
 use Rattle.port.specs.declared.Serial.{Serial}
 use Rattle.text.specs.Texts.{digits16, digits32}
 use Rattle.scan.specs.Exact.{SerialFits, VersionFits}
-use Rattle.store.specs.Stores.{storeText, kept}
+use Rattle.store.specs.Stores.{storeText, storedOf}
 use Rattle.restore.specs.Restoring.{storeOf, readStore}
 use Rattle.keeping.specs.Keeping.{Storable}
 use Rattle.station.specs.declared.Station.{Station}
@@ -37,7 +37,7 @@ abbrev pub Wide : Station → Type 0
 Wide st = (position : ℕ) → position < portCount → WidePort (portAt st position)
 
 -- after any calls from a start: every number fits, and reading what is written gives back what a store keeps of every port
-pub record ReadsBack : Type 0 where
+pub record StoresReadBack : Type 0 where
   pub wide : (st : Station) → Start st → (cs : List Call) → AllRead cs → Wide (run st cs)
   pub storable : (st : Station) → Start st → (cs : List Call) → AllRead cs → Storable (run st cs .ports)
-  pub read-back : (st : Station) → Start st → (cs : List Call) → AllRead cs → readStore (storeText (run st cs .ports)) ≡ storeOf (map kept (run st cs .ports))
+  pub read-back : (st : Station) → Start st → (cs : List Call) → AllRead cs → readStore (storeText (run st cs .ports)) ≡ storeOf (map storedOf (run st cs .ports))

@@ -40,7 +40,7 @@ use Rattle.reach.specs.CallCases.{failedPlace, repliedPlace, repliedPort, Hidpp
 use Rattle.reach.specs.CallCasesLaws.{step-case}
 use Rattle.reach.specs.StartLaws.{start-port}
 use Rattle.reach.specs.StepLaws.{all-placed, next-reached, reached-start, reached-run}
-use Rattle.widths.specs.Widths.{ReadsBytes, AllRead, WidePort, Wide, ReadsBack}
+use Rattle.widths.specs.Widths.{ReadsBytes, AllRead, WidePort, Wide, StoresReadBack}
 
 wide-fresh : WidePort freshPort
 unfolding freshPort
@@ -202,7 +202,7 @@ stores st k w =
           indexes = indexes-fit (portAt st position .features) (s .each);
         }
 
-pub reads-back : ReadsBack
+pub reads-back : StoresReadBack
 reads-back =
     record {
       wide = λ st begun cs b. wide-run st cs (reached-start begun) (wide-start begun) b;

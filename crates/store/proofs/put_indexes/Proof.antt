@@ -4,8 +4,7 @@ use native.Mathlib.Omega.{arith}
 use Rattle.text.specs.PuttingLaws.{kept-length}
 use Rattle.text.specs.EachLaws.{Putting, each-begun, each-put, each-done}
 use Rattle.port.specs.Records.{featureCount}
-use Rattle.store.specs.Stores.{indexMost}
-use Rattle.store.specs.StoresLaws.{indexText}
+use Rattle.store.specs.Stores.{indexText, indexMost}
 use borrow.Author.Needs.{needs}
 use Rattle.store.proofs.put_indexes.Statement.{statement}
 use Rattle.store.proofs.put_indexes.Tie as tie

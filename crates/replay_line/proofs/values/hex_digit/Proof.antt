@@ -2,7 +2,7 @@
 use mathlib.Core.Path.{sym, _∙_}
 use native.Mathlib.Omega.{arith}
 use Rattle.replay_line.specs.LineValues.{hexDigit}
-use Rattle.replay_line.specs.LineValuesLaws.{in-range}
+use Rattle.report.specs.ChoicesLaws.{in-range}
 use borrow.Author.Needs.{needs}
 use Rattle.replay_line.proofs.values.hex_digit.Statement.{statement}
 use Rattle.replay_line.proofs.values.hex_digit.Tie as tie

@@ -5,7 +5,8 @@ use mathlib.Core.Path.{sym, _∙_}
 use native.Mathlib.Omega.{arith}
 use borrow.Author.Needs.{needs}
 use borrow.Author.Tests.{not-true, not-false}
-use Rattle.replay_line.specs.LineValuesLaws.{Counting, in-range, no-characters, led-by-zero, count-begun, count-stopped, count-over, count-more, count-done}
+use Rattle.report.specs.ChoicesLaws.{in-range}
+use Rattle.replay_line.specs.LineValuesLaws.{Counting, no-characters, led-by-zero, count-begun, count-stopped, count-over, count-more, count-done}
 use Rattle.replay_line.proofs.values.number.Statement.{statement}
 use Rattle.replay_line.proofs.values.number.Tie as tie
 
