@@ -224,13 +224,7 @@ built text ports s =
 
 -- and each store is written
 written-by : (text : List ℕ) → IsStore text → WrittenBy text
-written-by text (ports, s) =
-    let b = built text ports s in
-    record {
-      calls = b .calls;
-      bytes = b .bytes;
-      so = ap (λ (st : Station). storeText (st .ports)) (b .so) ∙ sym (s .so);
-    }
+written-by text (ports, s) = record { ports = ports; built = built text ports s; so = s .so }
 
 -- what is lent are bytes
 byte-at : (bytes : List ℕ) → Bytes bytes → (i : ℕ) → byte bytes i < 256
@@ -256,6 +250,13 @@ all-read (c ∷ cs) h = (reads-bytes c (h .0), all-read cs (h .1))
 accepted : (st : Station) → Start st → (cs : List Call) → AllRead cs → IsStore (storeText (run st cs .ports))
 accepted st start cs h = keeping .written (storeText (run st cs .ports)) .1 (run st cs .ports, (reads-back .storable st start cs h, refl))
 
+-- what is written is a store
+by-store : (text : List ℕ) → WrittenBy text → IsStore text
+by-store text w =
+    let b = w .built in
+    let is : storeText (run freshStation (b .calls) .ports) ≡ text = ap (λ (st : Station). storeText (st .ports)) (b .so) ∙ sym (w .so) in
+    subst IsStore is (accepted freshStation fresh (b .calls) (all-read (b .calls) (b .bytes)))
+
 -- with just room enough
 module _ (text : List ℕ) where
   abbrev room : List ℕ
@@ -280,7 +281,7 @@ pub all-written : AllWritten
 all-written =
     record {
       built = built;
-      exactly = λ text. (written-by text, (λ w. subst IsStore (w .so) (accepted freshStation fresh (w .calls) (all-read (w .calls) (w .bytes)))));
+      exactly = λ text. (written-by text, by-store text);
       accepted = accepted;
       wrote = wrote-all;
     }
