@@ -43,7 +43,7 @@ abbrev pub refusedBroken : ℕ → List Port → Restoring
 refusedBroken n ports = record { answer = refusedAt refusals.brokenLine n; ports = ports }
 
 -- the reader and the writer, for every text and all ports
-pub record Kept : Type 0 where
+pub record StoresKept : Type 0 where
   pub read-back : (ports : List Port) → Storable ports → readStore (storeText ports) ≡ storeOf (map kept ports)
   pub paired-kept : (p : Port) → p .paired ≡ true → ReadBack p (kept p)
   pub unpaired-fresh : (p : Port) → p .paired ≡ false → kept p ≡ freshPort

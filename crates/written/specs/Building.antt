@@ -16,8 +16,8 @@ use Rattle.serial.specs.Serials.{longRegister, serialRegister, parameterFor}
 use Rattle.sequence.specs.Steps.{Call, take, request, cancel, tick, write, restore}
 
 -- a 0x41 with this WPID and bitfield, lowest byte first
-abbrev pub pairing : (number wpid reports : ℕ) → List ℕ
-pairing number wpid reports =
+abbrev pub pairedReport : (number wpid reports : ℕ) → List ℕ
+pairedReport number wpid reports =
     djShort ∷ number ∷ 0x41 ∷ 0 ∷ wpid % 256 ∷ wpid / 256 ∷ reports % 256 ∷ reports / 256 % 256 ∷ reports / 256 / 256 % 256 ∷ reports / 256 / 256 / 256 ∷ replicate 5 0
 
 -- a buffer for a short request
@@ -47,20 +47,20 @@ indexesCalls number (feature ∷ known) [] = []
 indexesCalls number (feature ∷ known) (index ∷ features) = indexCalls number feature (index .0) ++ indexesCalls number known features
 
 -- a long reply that gives a serial, the most significant byte first
-abbrev pub serialReply : (number serial : ℕ) → List ℕ
-serialReply number serial =
+abbrev pub serialAnswer : (number serial : ℕ) → List ℕ
+serialAnswer number serial =
     hidppLong ∷ receiver ∷ longRegister ∷ serialRegister ∷ parameterFor number ∷ serial / 256 / 256 / 256 ∷ serial / 256 / 256 % 256 ∷ serial / 256 % 256 ∷ serial % 256 ∷ replicate 11 0
 
 abbrev pub serialCalls : ℕ → Serial → List Call
 serialCalls number serials.Unknown = []
 serialCalls number (serials.Known serial) =
-    asks receiver longRegister serialRegister (parameterFor number) 0 0 ∷ take (serialReply number serial) ∷ []
+    asks receiver longRegister serialRegister (parameterFor number) 0 0 ∷ take (serialAnswer number serial) ∷ []
 
 -- all that is known of a paired device
 unfoldable pub deviceCalls : ℕ → Port → List Call
 deviceCalls number p =
     cond (p .paired)
-    (take (pairing number (p .wpid) (p .reports))
+    (take (pairedReport number (p .wpid) (p .reports))
     ∷ (versionCalls number (p .version)
     ++ (indexesCalls number knownFeatures (p .features)
     ++ serialCalls number (p .serial))))
@@ -72,15 +72,15 @@ devicesCalls number [] = []
 devicesCalls number (p ∷ devices) = deviceCalls number p ++ devicesCalls (suc number) devices
 
 -- every byte is one
-unfoldable pub Bytes : List ℕ → Type 0
-Bytes [] = Unit
-Bytes (byte ∷ bytes) = (byte < 256) × Bytes bytes
+unfoldable pub AllBytes : List ℕ → Type 0
+AllBytes [] = Unit
+AllBytes (byte ∷ bytes) = (byte < 256) × AllBytes bytes
 
 -- a report that is taken or a request that is made, with bytes for all their numbers
 unfoldable pub TakesOrAsks : Call → Type 0
-TakesOrAsks (take bytes) = Bytes bytes
+TakesOrAsks (take bytes) = AllBytes bytes
 TakesOrAsks (request device byte2 byte3 ticks params offset lent) =
-    Bytes (device ∷ byte2 ∷ byte3 ∷ ticks ∷ offset ∷ []) × (Bytes params × Bytes lent)
+    AllBytes (device ∷ byte2 ∷ byte3 ∷ ticks ∷ offset ∷ []) × (AllBytes params × AllBytes lent)
 TakesOrAsks (cancel device byte2 byte3) = ⊥
 TakesOrAsks tick = ⊥
 TakesOrAsks (write writer offset lent) = ⊥

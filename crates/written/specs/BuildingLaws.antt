@@ -39,7 +39,7 @@ use Rattle.station.specs.StationTaking.{storedAt, alsoAt, takeBy, takeRule}
 use Rattle.station.specs.StationCalls.{requestedAt, requestRule}
 use Rattle.sequence.specs.NumbersLaws.{device-port}
 use Rattle.sequence.specs.Steps.{Call, take, request, step, run}
-use Rattle.written.specs.Building.{pairing, shortBuffer, asks, replies, versionCalls, indexCalls, indexesCalls, serialReply, serialCalls}
+use Rattle.written.specs.Building.{pairedReport, shortBuffer, asks, replies, versionCalls, indexCalls, indexesCalls, serialAnswer, serialCalls}
 
 -- one call after others
 pub run-append : (st : Station) (cs ds : List Call) → run st (cs ++ ds) ≡ run (run st cs) ds
@@ -102,20 +102,20 @@ module _ (n serial : ℕ) where
   serial-waits = refl
 
   abbrev serialReport : Report
-  serialReport = reportFrom hidppStart (serialReply n serial)
+  serialReport = reportFrom hidppStart (serialAnswer n serial)
 
-  read-serial : readRule (serialReply n serial) ≡ reading.hidpp serialReport
+  read-serial : readRule (serialAnswer n serial) ≡ reading.hidpp serialReport
   unfolding readRule familyRule hidppRule reportFrom lengthOf
   read-serial = refl
 
-  serial-answered : takeHidpp askedReceiver (messageOf serialReport (serialReply n serial)) .port ≡ freshPort
+  serial-answered : takeHidpp askedReceiver (messageOf serialReport (serialAnswer n serial)) .port ≡ freshPort
   unfolding takeHidpp replyRule afterReply endedAt messageOf reportFrom firstAt emptyPlace freshPort waitingRequest withPlaces
   serial-answered = refl
 
-  serial-given : isDevice n ≡ true → givenBy askedReceiver serialReport (serialReply n serial) ≡ serialOf n serial
+  serial-given : isDevice n ≡ true → givenBy askedReceiver serialReport (serialAnswer n serial) ≡ serialOf n serial
   unfolding reportFrom firstAt emptyPlace freshPort waitingRequest withPlaces
   serial-given named =
-      given-exactly askedReceiver serialReport (serialReply n serial) n serial .1 (record {
+      given-exactly askedReceiver serialReport (serialAnswer n serial) n serial .1 (record {
         receiver = refl;
         long = refl;
         byte2 = refl;
@@ -159,16 +159,16 @@ module _ (base : Station) (n : ℕ) (named : isDevice n ≡ true) (seven : lengt
       station ports = record { ports = ports }
 
   -- it is paired
-  read-pairing : (wpid reports : ℕ) → readRule (pairing n wpid reports) ≡ reading.dj (reportFrom djStart (pairing n wpid reports))
+  read-pairing : (wpid reports : ℕ) → readRule (pairedReport n wpid reports) ≡ reading.dj (reportFrom djStart (pairedReport n wpid reports))
   unfolding readRule familyRule djRule reportFrom lengthOf
   read-pairing wpid reports =
-      ap (λ (b : Bool). cond (not b) (reading.refused noSuchPort) (reading.dj (reportFrom djStart (pairing n wpid reports)))) named
+      ap (λ (b : Bool). cond (not b) (reading.refused noSuchPort) (reading.dj (reportFrom djStart (pairedReport n wpid reports)))) named
 
-  pub paired : (wpid reports : ℕ) → run (with-device freshPort) (take (pairing n wpid reports) ∷ []) ≡ with-device (padPort wpid serials.Unknown reports versions.Unknown noIndexes)
+  pub paired : (wpid reports : ℕ) → run (with-device freshPort) (take (pairedReport n wpid reports) ∷ []) ≡ with-device (padPort wpid serials.Unknown reports versions.Unknown noIndexes)
   unfolding run step takeRule takeBy takeDj pairedRule reportFrom madeFresh withPairing freshPort padPort
   paired wpid reports =
-      ap (λ (r : reading.Read). takeBy r (pairing n wpid reports) (with-device freshPort) .station) (read-pairing wpid reports)
-      ∙ ap (λ (p : Port). withPort (with-device freshPort) (positionOf n) (takeDj p (reportFrom djStart (pairing n wpid reports)) (pairing n wpid reports) .port)) (at-device freshPort)
+      ap (λ (r : reading.Read). takeBy r (pairedReport n wpid reports) (with-device freshPort) .station) (read-pairing wpid reports)
+      ∙ ap (λ (p : Port). withPort (with-device freshPort) (positionOf n) (takeDj p (reportFrom djStart (pairedReport n wpid reports)) (pairedReport n wpid reports) .port)) (at-device freshPort)
       ∙ again freshPort (padPort (joined2 (wpid % 256) (wpid / 256)) serials.Unknown (joined4 (reports % 256) (reports / 256 % 256) (reports / 256 / 256 % 256) (reports / 256 / 256 / 256)) versions.Unknown noIndexes)
       ∙ (λ i. with-device (padPort (two-bytes wpid i) serials.Unknown (four-bytes reports i) versions.Unknown noIndexes))
 
@@ -273,11 +273,11 @@ module _ (base : Station) (n : ℕ) (named : isDevice n ≡ true) (seven : lengt
         ap (λ (x : Port). withPort (with-device p) receiverPosition (requestAt x receiver longRegister serialRegister 1 (parameterFor n ∷ 0 ∷ 0 ∷ []) 0 shortBuffer .port)) (at-receiver p)
         ∙ ap (withPort (with-device p) receiverPosition) (serial-waits n serial)
 
-    told-receiver : (serial : ℕ) → run (with-receiver (askedReceiver n serial)) (take (serialReply n serial) ∷ []) ≡ with-device (serialRule p serial .port)
+    told-receiver : (serial : ℕ) → run (with-receiver (askedReceiver n serial)) (take (serialAnswer n serial) ∷ []) ≡ with-device (serialRule p serial .port)
     unfolding run step takeRule takeBy reportFrom positionOf
     told-receiver serial =
         let st : Station = with-receiver (askedReceiver n serial) in
-        let bytes : List ℕ = serialReply n serial in
+        let bytes : List ℕ = serialAnswer n serial in
         let r : Report = serialReport n serial in
         ap (λ (x : reading.Read). takeBy x bytes st .station) (read-serial n serial)
         ∙ ap (λ (x : Port). alsoAt st (givenBy x r bytes) (storedAt st receiverPosition (takeHidpp x (messageOf r bytes))) .station) (receiver-there (askedReceiver n serial))
@@ -292,6 +292,6 @@ module _ (base : Station) (n : ℕ) (named : isDevice n ≡ true) (seven : lengt
   serial-told wpid reports version features serials.Unknown = refl
   serial-told wpid reports version features (serials.Known serial) =
       let p : Port = padPort wpid serials.Unknown reports version features in
-      ap (λ (st : Station). run st (take (serialReply n serial) ∷ [])) (asked-receiver p serial)
+      ap (λ (st : Station). run st (take (serialAnswer n serial) ∷ [])) (asked-receiver p serial)
       ∙ told-receiver p serial
       ∙ ap with-device (serial-kept n serial wpid reports version features)

@@ -16,7 +16,7 @@ use Rattle.station.specs.Stations.{freshStation}
 use Rattle.sequence.specs.Starts.{Start, restored}
 use Rattle.sequence.specs.Steps.{Call, take, cancel, tick, write, restore, store, step, run}
 use Rattle.widths.specs.Widths.{AllRead}
-use Rattle.written.specs.Building.{Bytes, TakesOrAsks, AllTakeOrAsk}
+use Rattle.written.specs.Building.{AllBytes, TakesOrAsks, AllTakeOrAsk}
 use Rattle.written.specs.Written.{Built, WrittenBy, AllWritten}
 
 asked-read : readStore asked ≡ storeOf askedPorts
@@ -40,7 +40,7 @@ no-restore text h = h
 
 -- of bytes
 no-larger : ¬ TakesOrAsks (take (256 ∷ []))
-unfolding TakesOrAsks Bytes
+unfolding TakesOrAsks AllBytes
 no-larger h = omega (arith, h .0)
 
 module _ (w : AllWritten) where

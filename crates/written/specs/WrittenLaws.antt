@@ -31,7 +31,7 @@ use Rattle.sequence.specs.Starts.{Start, fresh}
 use Rattle.sequence.specs.Steps.{Call, take, request, cancel, tick, write, restore, store, step, run}
 use Rattle.widths.specs.Widths.{ReadsBytes, AllRead}
 use Rattle.widths.specs.WidthsLaws.{reads-back}
-use Rattle.written.specs.Building.{pairing, asks, replies, versionCalls, indexCalls, indexesCalls, serialCalls, deviceCalls, devicesCalls, Bytes, TakesOrAsks, AllTakeOrAsk}
+use Rattle.written.specs.Building.{pairedReport, asks, replies, versionCalls, indexCalls, indexesCalls, serialCalls, deviceCalls, devicesCalls, AllBytes, TakesOrAsks, AllTakeOrAsk}
 use Rattle.written.specs.BuildingLaws.{run-append, noIndexes, with-device, paired, version-told, indexes-told, serial-told}
 use Rattle.written.specs.Written.{Built, WrittenBy, AllWritten}
 
@@ -50,9 +50,9 @@ module _ (base : Station) (n : ℕ) (named : isDevice n ≡ true) (seven : lengt
   all-indexes wpid reports version (a ∷ b ∷ c ∷ d ∷ e ∷ f ∷ features) h fits = absurd (omega (arith, h))
 
   -- all that is known of a device is told
-  pad-told : (wpid reports : ℕ) (serial : Serial) (version : Version) (features : List FeatureIndex) → length features ≡ featureCount → IndexesFit features → run (at freshPort) (take (pairing n wpid reports) ∷ (versionCalls n version ++ (indexesCalls n knownFeatures features ++ serialCalls n serial))) ≡ at (padPort wpid serial reports version features)
+  pad-told : (wpid reports : ℕ) (serial : Serial) (version : Version) (features : List FeatureIndex) → length features ≡ featureCount → IndexesFit features → run (at freshPort) (take (pairedReport n wpid reports) ∷ (versionCalls n version ++ (indexesCalls n knownFeatures features ++ serialCalls n serial))) ≡ at (padPort wpid serial reports version features)
   pad-told wpid reports serial version features all fits =
-      run-append (at freshPort) (take (pairing n wpid reports) ∷ []) (versionCalls n version ++ (indexesCalls n knownFeatures features ++ serialCalls n serial))
+      run-append (at freshPort) (take (pairedReport n wpid reports) ∷ []) (versionCalls n version ++ (indexesCalls n knownFeatures features ++ serialCalls n serial))
       ∙ ap (λ (st : Station). run st (versionCalls n version ++ (indexesCalls n knownFeatures features ++ serialCalls n serial))) (paired base n named seven idle wpid reports)
       ∙ run-append (at (padPort wpid serials.Unknown reports versions.Unknown noIndexes)) (versionCalls n version) (indexesCalls n knownFeatures features ++ serialCalls n serial)
       ∙ ap (λ (st : Station). run st (indexesCalls n knownFeatures features ++ serialCalls n serial)) (version-told base n named seven idle wpid serials.Unknown reports version noIndexes)
@@ -65,7 +65,7 @@ module _ (base : Station) (n : ℕ) (named : isDevice n ≡ true) (seven : lengt
   device-told p h = go (p .paired) refl
     where
       calls : List Call
-      calls = take (pairing n (p .wpid) (p .reports)) ∷ (versionCalls n (p .version) ++ (indexesCalls n knownFeatures (p .features) ++ serialCalls n (p .serial)))
+      calls = take (pairedReport n (p .wpid) (p .reports)) ∷ (versionCalls n (p .version) ++ (indexesCalls n knownFeatures (p .features) ++ serialCalls n (p .serial)))
 
       go : (b : Bool) → p .paired ≡ b → run (at freshPort) (deviceCalls n p) ≡ at p
       go true e =
@@ -146,13 +146,13 @@ AllTwoBytes [] = Unit
 AllTwoBytes (feature ∷ known) = (feature < 65536) × AllTwoBytes known
 
 asks-bytes : (n byte2 byte3 p0 p1 p2 : ℕ) → n < 256 → byte2 < 256 → byte3 < 256 → p0 < 256 → p1 < 256 → p2 < 256 → TakesOrAsks (asks n byte2 byte3 p0 p1 p2)
-unfolding TakesOrAsks Bytes
+unfolding TakesOrAsks AllBytes
 asks-bytes n byte2 byte3 p0 p1 p2 a b c d e f =
     let zero : 0 < 256 = omega arith in
     ((a, (b, (c, (omega arith, (zero, tt))))), ((d, (e, (f, tt))), (zero, (zero, (zero, (zero, (zero, (zero, (zero, tt)))))))))
 
 replies-bytes : (n byte2 byte3 p0 p1 p2 : ℕ) → n < 256 → byte2 < 256 → byte3 < 256 → p0 < 256 → p1 < 256 → p2 < 256 → TakesOrAsks (replies n byte2 byte3 p0 p1 p2)
-unfolding TakesOrAsks Bytes
+unfolding TakesOrAsks AllBytes
 replies-bytes n byte2 byte3 p0 p1 p2 a b c d e f = (omega arith, (a, (b, (c, (d, (e, (f, tt)))))))
 
 module _ (n : ℕ) (small : n ≤ deviceCount) where
@@ -162,8 +162,8 @@ module _ (n : ℕ) (small : n ≤ deviceCount) where
   zero-byte : 0 < 256
   zero-byte = omega arith
 
-  pairing-bytes : (wpid reports : ℕ) → wpid < 65536 → reports < 4294967296 → TakesOrAsks (take (pairing n wpid reports))
-  unfolding TakesOrAsks Bytes
+  pairing-bytes : (wpid reports : ℕ) → wpid < 65536 → reports < 4294967296 → TakesOrAsks (take (pairedReport n wpid reports))
+  unfolding TakesOrAsks AllBytes
   pairing-bytes wpid reports w r =
       (omega arith, (byte-n, (omega arith, (zero-byte, (omega arith, (omega (arith, w), (omega arith, (omega arith, (omega arith, (omega (arith, r), (zero-byte, (zero-byte, (zero-byte, (zero-byte, (zero-byte, tt)))))))))))))))
 
@@ -186,7 +186,7 @@ module _ (n : ℕ) (small : n ≤ deviceCount) where
       bytes-append (indexCalls n feature (index .0)) (indexesCalls n known features) (index-bytes feature (index .0) (k .0) (h .0)) (indexes-bytes features known (h .1) (k .1))
 
   serial-bytes : (serial : Serial) → SerialFits serial → AllTakeOrAsk (serialCalls n serial)
-  unfolding AllTakeOrAsk TakesOrAsks Bytes
+  unfolding AllTakeOrAsk TakesOrAsks AllBytes
   serial-bytes serials.Unknown h = tt
   serial-bytes (serials.Known serial) h =
       let s : serial < 4294967296 = h in
@@ -200,7 +200,7 @@ module _ (n : ℕ) (small : n ≤ deviceCount) where
       calls : List Call
       calls = versionCalls n (p .version) ++ (indexesCalls n knownFeatures (p .features) ++ serialCalls n (p .serial))
 
-      go : (b : Bool) → p .paired ≡ b → AllTakeOrAsk (cond b (take (pairing n (p .wpid) (p .reports)) ∷ calls) [])
+      go : (b : Bool) → p .paired ≡ b → AllTakeOrAsk (cond b (take (pairedReport n (p .wpid) (p .reports)) ∷ calls) [])
       go false e = tt
       go true e =
           let f : PadFits p = h .fits e in
@@ -227,8 +227,8 @@ written-by : (text : List ℕ) → IsStore text → WrittenBy text
 written-by text (ports, s) = record { ports = ports; built = built text ports s; so = s .so }
 
 -- what is lent are bytes
-byte-at : (bytes : List ℕ) → Bytes bytes → (i : ℕ) → byte bytes i < 256
-unfolding Bytes
+byte-at : (bytes : List ℕ) → AllBytes bytes → (i : ℕ) → byte bytes i < 256
+unfolding AllBytes
 byte-at [] h i = omega arith
 byte-at (b ∷ bytes) h zero = h .0
 byte-at (b ∷ bytes) h (suc i) = byte-at bytes (h .1) i
