@@ -44,11 +44,21 @@ use Rattle.station.specs.declared.TakeResult.{TakeResult}
 use Rattle.station.specs.declared.RequestResult.{RequestResult}
 use Rattle.station.specs.declared.CancelResult.{CancelResult}
 use Rattle.station.specs.declared.TickResult.{TickResult}
-use Rattle.station.specs.StationContracts.{takeOutcome, requestOutcome, cancelOutcome, tickOutcome}
+use Rattle.station.specs.StationContracts.{takeOutcome, requestOutcome, cancelOutcome, tickOutcome, restoreOutcome}
+use Rattle.station.specs.declared.RestoreResult.{RestoreResult}
+use Rattle.station.specs.StationCalls.{RestoreOutcome, restoredTo}
+use Rattle.store.specs.Stores.{storeText, kept, Store}
+use Rattle.restore.specs.Restoring.{refused, refusedAt}
+use Rattle.restore.specs.RestoreContracts.{restoredOf}
+use Rattle.keeping.specs.Lines.{IsStore, OtherEdition, BrokenAt}
+use Rattle.keeping.specs.Keeping.{accepted, refusedOther, refusedBroken}
 use Rattle.station.specs.Stations.{portCount, positionOf, portFor}
 use Rattle.station.proofs.Station.new.Reads as new-reads
 use Rattle.sequence.specs.Starts.{Start}
-use Rattle.sequence.specs.Steps.{led, Call, take, request, cancel, tick, write, taken, written, ticked, Outcome, takeStep, requestStep, cancelStep, tickStep, writeStep, step, run, Returned, returned, labelOf}
+use Rattle.sequence.specs.Steps.{led, Call, take, request, cancel, tick, write, restore, taken, written, ticked, Outcome, takeStep, requestStep, cancelStep, tickStep, writeStep, restoreStep, begins, step, run, Returned, returned, labelOf}
+use Rattle.sequence.specs.Sequences.{Unread, Sequences}
+use Rattle.widths.specs.Widths.{AllRead}
+use Rattle.written.specs.Written.{WrittenBy}
 use Rattle.sequence.specs.Targets.{Target, none, one, all}
 use Rattle.sequence.specs.Sentence.{sentence}
 use Rattle.sequence.specs.Refused.{isRefusal}
@@ -304,8 +314,9 @@ module _ (d : Demands) where
 
   -- a cancel leaves every battery
   cancel-keeps-batteries : (st : Station) → Reached st → (device byte2 byte3 : ℕ) (r : CancelResult) → Ensured st (cancel device byte2 byte3) (cancelStep (cancelOutcome r)) → (n : ℕ) → isPort n ≡ true → portFor (r .station) n .battery ≡ portFor st n .battery
+  unfolding begins
   cancel-keeps-batteries st k device byte2 byte3 r e n h =
-      d .changes st k (cancel device byte2 byte3) (cancelStep (cancelOutcome r)) e n h battery (go (eqb device n))
+      d .changes st k (cancel device byte2 byte3) (cancelStep (cancelOutcome r)) e refl n h battery (go (eqb device n))
     where
       go : (b : Bool) → (b && false) || false ≡ false
       go true = refl
@@ -313,16 +324,62 @@ module _ (d : Demands) where
 
   -- what a tick says of a port is what it ended there: what waited waits or is counted
   tick-counts : (st : Station) → Reached st → (r : TickResult) → Ensured st tick (tickStep (tickOutcome r)) → (n : ℕ) → isPort n ≡ true → waitingOn (portFor (r .station) n) + endedInAll n (endingOf n tick (ticked (r .ended))) ≡ waitingOn (portFor st n) + 0
-  tick-counts st k r e n h = d .counts st k tick (tickStep (tickOutcome r)) e n h .balance
+  unfolding begins
+  tick-counts st k r e n h = d .counts st k tick (tickStep (tickOutcome r)) e refl n h .balance
 
   -- the program's new station is where a history begins, and the invariant holds wherever it ends
   new-begins : (r : Station) → new-reads.Learnt tt tt r tt → Start r
-  new-begins = d .begins
+  new-begins = d .starts
+
+  -- so is one that a store restores, and what follows is a sequence of its own
+  read-begins : (st : Station) (text : List ℕ) (r : RestoreResult) → Ensured st (restore text) (restoreStep text (restoreOutcome r)) → begins (restore text) ≡ true → Start (r .station)
+  read-begins st text r = d .restarts st (restore text) (restoreStep text (restoreOutcome r))
+
+  made-of-sequences : (st : Station) → Start st → (ms : List Made) → History st ms → Sequences st ms
+  made-of-sequences = d .sequences
+
+  -- a store is read: its ports, and no others
+  module _ (st : Station) (text : List ℕ) (r : RestoreResult) (e : Ensured st (restore text) (restoreStep text (restoreOutcome r))) where
+    store-restores : (ports : List Port) → Store text ports → r .station .ports ≡ ports
+    store-restores ports s = ap (λ (o : RestoreOutcome). o .station .ports) (d .stores st text r e ports .1 s)
+
+    only-stores : (ports : List Port) → restoreOutcome r ≡ restoredTo (accepted ports) → Store text ports
+    only-stores ports = d .stores st text r e ports .0
+
+    -- a file of a later edition is refused with 15, and of nothing else
+    later-refused : OtherEdition text → (restoredOf (r .answer) ≡ refused 15) × (r .station ≡ st)
+    later-refused h =
+        let z = d .other-editions st text r e .1 h in
+        (ap (λ (o : RestoreOutcome). o .answer) z, ap (λ (o : RestoreOutcome). o .station) z)
+
+    only-later : restoreOutcome r ≡ restoredTo (refusedOther (st .ports)) → OtherEdition text
+    only-later = d .other-editions st text r e .0
+
+    -- a line that breaks the rules is told by its number
+    line-told : (line : ℕ) → BrokenAt text line → (restoredOf (r .answer) ≡ refusedAt 16 line) × (r .station ≡ st)
+    line-told line h =
+        let z = d .broken-lines st text r e line .1 h in
+        (ap (λ (o : RestoreOutcome). o .answer) z, ap (λ (o : RestoreOutcome). o .station) z)
+
+    only-that-line : (line : ℕ) → restoreOutcome r ≡ restoredTo (refusedBroken line (st .ports)) → BrokenAt text line
+    only-that-line line = d .broken-lines st text r e line .0
+
+  -- a restart: pad 2 has its model back, whatever the calls before were
+  pad-2-back : (st : Station) → Start st → (ms : List Made) → History st ms → AllRead (map callOf ms) → (other : Station) (r : RestoreResult) → Ensured other (restore (storeText (stationAfter st ms .ports))) (restoreStep (storeText (stationAfter st ms .ports)) (restoreOutcome r)) → r .station .ports ≡ map kept (stationAfter st ms .ports)
+  pad-2-back st begun ms k bytes other r e =
+      ap (λ (o : RestoreOutcome). o .station .ports) (d .read-back st begun ms k bytes other r e)
+
+  -- of stores: one station, one text; and each text is that of a station that calls reach
+  one-text : (text other : List ℕ) (ports : List Port) → Store text ports → Store other ports → text ≡ other
+  one-text = d .of-stores .one-text
+
+  some-station : (text : List ℕ) → IsStore text → WrittenBy text
+  some-station text = d .of-texts .exactly text .0
 
   invariant-holds : (st : Station) → Start st → (ms : List Made) → History st ms → Reached (stationAfter st ms)
   invariant-holds = d .reached
 
-  module _ (st : Station) (begins : Start st) (ms ns : List Made) (k : History st ms) (l : History st ns) where
+  module _ (st : Station) (begun : Start st) (ms ns : List Made) (k : History st ms) (l : History st ns) where
     -- two histories with the same calls give the same answers and lent bytes, and the same station
     same-answers : map callOf ms ≡ map callOf ns → made st ms ≡ made st ns
     same-answers e =
@@ -333,24 +390,24 @@ module _ (d : Demands) where
 
     -- device 2 by itself: what it holds, and what its calls return
     device-2-holds : map callOf ns ≡ callsOf (remaining 2 (made st ms)) → view 2 (stationAfter st ms) ≡ view 2 (stationAfter st ns)
-    device-2-holds = d .holds 2 refl st begins ms ns k l
+    device-2-holds = d .holds 2 refl st begun ms ns k l
 
     device-2-returns : map callOf ns ≡ callsOf (remaining 2 (made st ms)) → compared 2 (remaining 2 (made st ms)) ≡ compared 2 (made st ns)
-    device-2-returns = d .returns 2 refl st begins ms ns k l
+    device-2-returns = d .returns 2 refl st begun ms ns k l
 
     -- and 255
     receiver-holds : map callOf ns ≡ callsOf (remaining 255 (made st ms)) → view 255 (stationAfter st ms) ≡ view 255 (stationAfter st ns)
-    receiver-holds = d .holds 255 refl st begins ms ns k l
+    receiver-holds = d .holds 255 refl st begun ms ns k l
 
     receiver-returns : map callOf ns ≡ callsOf (remaining 255 (made st ms)) → compared 255 (remaining 255 (made st ms)) ≡ compared 255 (made st ns)
-    receiver-returns = d .returns 255 refl st begins ms ns k l
+    receiver-returns = d .returns 255 refl st begun ms ns k l
 
     any-order : ((n : ℕ) → isDevice n ≡ true → callsOf (remaining n (made st ms)) ≡ callsOf (remaining n (made st ns))) → stationAfter st ms ≡ stationAfter st ns
-    any-order = d .orders st begins ms ns k l
+    any-order = d .orders st begun ms ns k l
 
     -- every request that device 2 was sent has ended, as an answer said, or waits
-    device-2-accounted : begunIn 2 (made st ms) ≡ endedIn byReply 2 (made st ms) + (endedIn byError 2 (made st ms) + (endedIn byExpiry 2 (made st ms) + (endedIn byCancel 2 (made st ms) + (endedIn byDrop 2 (made st ms) + waitingOn (portFor (stationAfter st ms) 2)))))
-    device-2-accounted = d .accounted 2 refl st begins ms k
+    device-2-accounted : Unread (map callOf ms) → begunIn 2 (made st ms) ≡ endedIn byReply 2 (made st ms) + (endedIn byError 2 (made st ms) + (endedIn byExpiry 2 (made st ms) + (endedIn byCancel 2 (made st ms) + (endedIn byDrop 2 (made st ms) + waitingOn (portFor (stationAfter st ms) 2)))))
+    device-2-accounted = d .accounted 2 refl st begun ms k
 
   -- a radio report is for the device that it names
   radio-named : (st : Station) (bytes : List ℕ) (r : TakeResult) → Ensured st (take bytes) (takeStep bytes (takeOutcome r)) → (kind start size : ℕ) → takenOf (r .answer) ≡ answers.radio kind start size → labelOf st (take bytes) ≡ one (byte bytes 1)
@@ -367,11 +424,14 @@ module _ (d : Demands) where
   tick-stays : (e : Entry) (es : List Entry) → e .label ≡ all → remaining 2 (e ∷ es) ≡ e ∷ remaining 2 es
   tick-stays e es q = d .left-in 2 e es (subst (Stays 2) (sym q) tickCall)
 
-  device-3-struck : (e : Entry) (es : List Entry) → e .label ≡ one 3 → remaining 2 (e ∷ es) ≡ remaining 2 es
+  read-stays : (e : Entry) (es : List Entry) → begins (e .call) ≡ true → remaining 2 (e ∷ es) ≡ e ∷ remaining 2 es
+  read-stays = d .begun-left-in 2
+
+  device-3-struck : (e : Entry) (es : List Entry) → e .label ≡ one 3 → begins (e .call) ≡ false → remaining 2 (e ∷ es) ≡ remaining 2 es
   device-3-struck e es q =
       d .struck-out 2 e es (λ s. named 2 3 (λ z. omega (arith, z)) (λ z. omega (arith, z)) (subst (Stays 2) q s))
 
-  device-2-struck : (e : Entry) (es : List Entry) → e .label ≡ one 2 → remaining 255 (e ∷ es) ≡ remaining 255 es
+  device-2-struck : (e : Entry) (es : List Entry) → e .label ≡ one 2 → begins (e .call) ≡ false → remaining 255 (e ∷ es) ≡ remaining 255 es
   device-2-struck e es q =
       d .struck-out 255 e es (λ s. named 255 2 (λ z. omega (arith, z)) (λ z. omega (arith, z)) (subst (Stays 255) q s))
 

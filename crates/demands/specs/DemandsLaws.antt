@@ -6,21 +6,33 @@ use mathlib.Core.List.{List, map}
 use denote.Ref.{now}
 use Rattle.port.specs.Answers.{Answer}
 use Rattle.port.specs.PortContracts.{takenOf}
+use Rattle.port.specs.declared.Port.{Port}
+use Rattle.store.specs.Stores.{storeText, kept}
+use Rattle.restore.specs.Restoring.{RestoreAnswer, StoreRead, Restoring, restoredBy, restorePorts}
+use Rattle.keeping.specs.Keeping.{Storable, accepted}
+use Rattle.keeping.specs.KeepingLaws.{keeping}
 use Rattle.station.specs.declared.Station.{Station}
+use Rattle.station.specs.StationCalls.{RestoreOutcome, restoredTo, restoreRule}
 use Rattle.station.specs.declared.TakeResult.{TakeResult}
-use Rattle.station.specs.StationContracts.{takeOutcome}
+use Rattle.station.specs.declared.RestoreResult.{RestoreResult}
+use Rattle.station.specs.StationContracts.{takeOutcome, restoreOutcome}
 use Rattle.station.specs.StationTaking.{takeRule}
 use Rattle.sequence.specs.Starts.{Start, fresh}
 use Rattle.sequence.specs.Steps as steps
-use Rattle.sequence.specs.Steps.{Call, take, Outcome, takeStep, step, run}
+use Rattle.sequence.specs.Steps.{Call, take, restore, Outcome, takeStep, restoreStep, begins, step, run}
 use Rattle.sequence.specs.Refused.{isRefusal, Unchanged}
 use Rattle.sequence.specs.Sentence.{sentence}
 use Rattle.sequence.specs.SentenceLaws.{by-answer}
 use Rattle.sequence.specs.Transcripts.{Entry, transcript}
 use Rattle.sequence.specs.Remaining.{view, count}
-use Rattle.sequence.specs.StaysLaws.{left-in, struck-out, compares-own, compares-receiver, compares-drops}
-use Rattle.sequence.specs.Histories.{Ensured, Made, callOf, stationAfter, made}
+use Rattle.sequence.specs.StartsLaws.{begun-start}
+use Rattle.sequence.specs.SequencesLaws.{sequences}
+use Rattle.sequence.specs.StaysLaws.{left-in, begun-left-in, struck-out, compares-own, compares-receiver, compares-drops}
+use Rattle.sequence.specs.Histories.{Ensured, Made, callOf, History, stationAfter, made}
 use Rattle.sequence.specs.HistoriesLaws as histories
+use Rattle.widths.specs.Widths.{AllRead}
+use Rattle.widths.specs.WidthsLaws.{reads-back}
+use Rattle.written.specs.WrittenLaws.{all-written}
 use Rattle.reach.specs.Sound.{Reached}
 use Rattle.reach.specs.RefusalTable.{ByTheTable}
 use Rattle.reach.specs.Completion.{Completion}
@@ -62,6 +74,29 @@ taken st k bytes r e =
     let m = histories.met e in
     subst (λ (a : Answer). Completion st bytes a (r .station)) (sym (same-taken (ap (λ (o : Outcome). o .answer) m))) (subst (Completion st bytes (takeRule st bytes .answer)) (sym (ap (λ (o : Outcome). o .station) m)) (complete .completes st k bytes))
 
+same-restoring : {a b : RestoreAnswer} → steps.restoring a ≡ steps.restoring b → a ≡ b
+same-restoring e = cc
+
+-- a read by its contract
+read-by : (st : Station) (text : List ℕ) (r : RestoreResult) → Ensured st (restore text) (restoreStep text (restoreOutcome r)) → restoreOutcome r ≡ restoredTo (restorePorts (st .ports) text)
+unfolding step restoreRule
+read-by st text r e =
+    let m = histories.met e in
+    λ i. record { answer = same-restoring (ap (λ (o : Outcome). o .answer) m) i; station = ap (λ (o : Outcome). o .station) m i }
+
+same-read : {x y : Restoring} → restoredTo x ≡ restoredTo y → x ≡ y
+same-read e = ap (λ (o : RestoreOutcome). back o) e
+  where
+    back : RestoreOutcome → Restoring
+    back o = record { answer = o .answer; ports = o .station .ports }
+
+came-back : (st : Station) → Start st → (ms : List Made) → History st ms → AllRead (map callOf ms) → (other : Station) (r : RestoreResult) → Ensured other (restore (storeText (stationAfter st ms .ports))) (restoreStep (storeText (stationAfter st ms .ports)) (restoreOutcome r)) → restoreOutcome r ≡ restoredTo (accepted (map kept (stationAfter st ms .ports)))
+unfolding restorePorts
+came-back st begun ms k bytes other r e =
+    let end : stationAfter st ms ≡ run st (map callOf ms) = histories.history st ms k .station in
+    let storable = subst (λ (x : Station). Storable (x .ports)) (sym end) (reads-back .storable st begun (map callOf ms) bytes) in
+    read-by other (storeText (stationAfter st ms .ports)) r e ∙ ap (λ (x : StoreRead). restoredTo (restoredBy (other .ports) x)) (keeping .read-back (stationAfter st ms .ports) storable)
+
 pub demands : Demands
 demands =
     record {
@@ -78,27 +113,36 @@ demands =
       beside = λ st k bytes. complete .completes st k bytes .beside;
       serials = λ st k bytes r e. taken st k bytes r e .told;
       no-drops = λ st k bytes r e. taken st k bytes r e .untold;
-      changes = λ st k c o e n h. by-step (λ o. ChangesListed n c (o .answer) (view 255 st) (view n st) (view n (o .station))) e (complete .changes st k c n h);
-      counts = λ st k c o e n h. by-step (λ o. EndsAt n c (o .answer) (view n st) (view n (o .station))) e (complete .ends st k c n h);
-      begins = λ r e. subst Start (sym e) fresh;
-      reached = λ st begins ms k. subst Reached (sym (histories.history st ms k .station)) (complete .reached st begins (map callOf ms));
+      stores = λ st text r e ports. let m = read-by st text r e in let h = keeping .restores (st .ports) text ports in (λ z. h .0 (same-read (sym m ∙ z)), λ s. m ∙ ap restoredTo (h .1 s));
+      other-editions = λ st text r e. let m = read-by st text r e in let h = keeping .refuses-other (st .ports) text in (λ z. h .0 (same-read (sym m ∙ z)), λ s. m ∙ ap restoredTo (h .1 s));
+      broken-lines = λ st text r e line. let m = read-by st text r e in let h = keeping .refuses-broken (st .ports) text line in (λ z. h .0 (same-read (sym m ∙ z)), λ s. m ∙ ap restoredTo (h .1 s));
+      read-back = came-back;
+      changes = λ st k c o e b n h. by-step (λ o. ChangesListed n c (o .answer) (view 255 st) (view n st) (view n (o .station))) e (complete .changes st k c b n h);
+      counts = λ st k c o e b n h. by-step (λ o. EndsAt n c (o .answer) (view n st) (view n (o .station))) e (complete .ends st k c b n h);
+      starts = λ r e. subst Start (sym e) fresh;
+      restarts = λ st c o e b. by-step (λ o. Start (o .station)) e (begun-start c st b);
+      sequences = sequences;
+      reached = λ st begun ms k. subst Reached (sym (histories.history st ms k .station)) (complete .reached st begun (map callOf ms));
       every-answer = λ st ms k. histories.history st ms k .entries;
       final-station = λ st ms k. histories.history st ms k .station;
       struck = λ st c o e. by-answer st c ∙ ap (λ (x : Outcome). sentence c (x .answer)) (sym (histories.met e));
       left-in = left-in;
+      begun-left-in = begun-left-in;
       struck-out = struck-out;
-      holds = λ n h st begins ms ns k l e. histories.alone n h st begins ms ns k l e .holds;
-      returns = λ n h st begins ms ns k l e. histories.alone n h st begins ms ns k l e .returns;
+      holds = λ n h st begun ms ns k l e. histories.alone n h st begun ms ns k l e .holds;
+      returns = λ n h st begun ms ns k l e. histories.alone n h st begun ms ns k l e .returns;
       compares-own = compares-own;
       compares-receiver = compares-receiver;
       compares-drops = compares-drops;
       compares-count = λ n o q xs ys a b e. let h = same-count e in cc (a, b, h);
       orders = histories.orders;
       cut = histories.cut;
-      accounted = λ n h st begins ms k. let r = histories.history st ms k in accounted-so n st ms (r .entries) (r .station) (complete .accounted n h st begins (map callOf ms));
+      accounted = λ n h st begun ms k unread. let r = histories.history st ms k in accounted-so n st ms (r .entries) (r .station) (complete .accounted n h st begun (map callOf ms) unread);
       runs = λ κ κ′ κ″ st encoded arena arenaAfter answers answersAfter r e. demand3 .run-encoded st (now encoded) (now arena) (now answers) r (now arenaAfter) (now answersAfter) e;
       rows = λ κ κ′ κ″ st encoded arena arenaAfter answers answersAfter r e seven. demand3 .program-rows st seven (now encoded) (now arena) (now answers) r (now arenaAfter) (now answersAfter) e;
       of-the-rules = complete;
+      of-stores = keeping;
+      of-texts = all-written;
       of-runs = demand3;
     }
   where

@@ -35,8 +35,14 @@ ledOpcode = 6
 abbrev pub listOpcode : ℕ
 listOpcode = 7
 
+abbrev pub storeOpcode : ℕ
+storeOpcode = 8
+
+abbrev pub restoreOpcode : ℕ
+restoreOpcode = 9
+
 abbrev pub lastOpcode : ℕ
-lastOpcode = listOpcode
+lastOpcode = restoreOpcode
 
 -- byte 0 the opcode; 1 to 3 byte arguments; then ticks, offset, the length of the data and that of the lent buffer, two bytes each
 unfoldable pub headerOf : List ℕ → Header
@@ -52,9 +58,9 @@ headerOf s =
       lent = joined2 (byte s 10) (byte s 11);
     }
 
--- request, switch, get-paired, LED and the listing are lent a buffer
+-- request, switch, get-paired, LED, the listing and the store are lent a buffer
 abbrev pub isWriter : ℕ → Bool
-isWriter op = eqb op requestOpcode || leb switchOpcode op
+isWriter op = eqb op requestOpcode || (leb switchOpcode op && leb op storeOpcode)
 
 -- how much of the arena a call is lent: nothing where it writes none, whatever its field says
 unfoldable pub lentSize : Header → ℕ
@@ -69,11 +75,13 @@ unfoldable pub blockWriter : Header → steps.Writer
 blockWriter h =
     cond (eqb (h .op) switchOpcode) (steps.switch (h .a) (h .b))
     (cond (eqb (h .op) getPairedOpcode) steps.getPaired
-    (cond (eqb (h .op) ledOpcode) (steps.led (h .a) (h .b)) steps.list))
+    (cond (eqb (h .op) ledOpcode) (steps.led (h .a) (h .b))
+    (cond (eqb (h .op) listOpcode) steps.list steps.store)))
 
 unfoldable pub blockCall : Header → List ℕ → List ℕ → steps.Call
 blockCall h bytes lent =
     cond (eqb (h .op) takeOpcode) (steps.take bytes)
     (cond (eqb (h .op) requestOpcode) (steps.request (h .a) (h .b) (h .c) (h .ticks) bytes (h .offset) lent)
     (cond (eqb (h .op) cancelOpcode) (steps.cancel (h .a) (h .b) (h .c))
-    (cond (eqb (h .op) tickOpcode) steps.tick (steps.write (blockWriter h) (h .offset) lent))))
+    (cond (eqb (h .op) tickOpcode) steps.tick
+    (cond (eqb (h .op) restoreOpcode) (steps.restore bytes) (steps.write (blockWriter h) (h .offset) lent)))))

@@ -3,6 +3,7 @@ use mathlib.Core.Path.{_∙_, ap}
 use borrow.Author.Tests.{le-leb}
 use Rattle.sequence.specs.IndependenceLaws as ports
 use Rattle.sequence.specs.HistoriesLaws as program
+use Rattle.sequence.specs.SequencesLaws.{sequences}
 use Rattle.encoded.specs.Decoding.{Decoded}
 use Rattle.encoded.specs.EncodingLaws.{encodes}
 use Rattle.encoded.specs.WithinLaws.{decoded-within}
@@ -17,6 +18,7 @@ demand3 =
       alone = ports.alone;
       orders = ports.orders;
       program = program.history;
+      sequences = sequences;
       run-encoded = λ st encoded arena answers r arenaAfter answersAfter kept cs decoded room. kept ∙ ap (λ (d : Decoded). encodedBy d st arena answers) decoded ∙ (simp (le-leb _ _ room));
       encoded = encodes;
       within = decoded-within;

@@ -5,7 +5,7 @@ use mathlib.Core.List.{List, [], _∷_, _++_}
 use lib.ListN.{length}
 use Rattle.sequence.specs.Steps as steps
 use Rattle.encoded.specs.declared.block.Header.{Header}
-use Rattle.encoded.specs.Blocks.{takeOpcode, requestOpcode, cancelOpcode, tickOpcode, switchOpcode, getPairedOpcode, ledOpcode, listOpcode}
+use Rattle.encoded.specs.Blocks.{takeOpcode, requestOpcode, cancelOpcode, tickOpcode, switchOpcode, getPairedOpcode, ledOpcode, listOpcode, storeOpcode, restoreOpcode}
 use Rattle.encoded.specs.Decoding.{calls, decode}
 
 -- the number of values of a byte
@@ -42,6 +42,8 @@ headerFor (steps.write (steps.switch bits timeout) offset lent) = header switchO
 headerFor (steps.write steps.getPaired offset lent) = header getPairedOpcode 0 0 0 0 offset [] lent
 headerFor (steps.write (steps.led device leds) offset lent) = header ledOpcode device leds 0 0 offset [] lent
 headerFor (steps.write steps.list offset lent) = header listOpcode 0 0 0 0 offset [] lent
+headerFor (steps.write steps.store offset lent) = header storeOpcode 0 0 0 0 offset [] lent
+headerFor (steps.restore text) = header restoreOpcode 0 0 0 0 0 text []
 
 abbrev pub encodeCall : steps.Call → List ℕ
 encodeCall c = encodeHeader (headerFor c) ++ steps.readOf c

@@ -41,6 +41,8 @@ says (steps.write (steps.switch bits timeout) offset lent) = record { known = re
 says (steps.write steps.getPaired offset lent) = record { known = refl; size = refl; lent = refl; call = refl }
 says (steps.write (steps.led device leds) offset lent) = record { known = refl; size = refl; lent = refl; call = refl }
 says (steps.write steps.list offset lent) = record { known = refl; size = refl; lent = refl; call = refl }
+says (steps.write steps.store offset lent) = record { known = refl; size = refl; lent = refl; call = refl }
+says (steps.restore text) = record { known = refl; size = refl; lent = refl; call = refl }
 
 -- one call's block and buffer, and what follows
 module _ (c : steps.Call) (rest arena : List ℕ) where

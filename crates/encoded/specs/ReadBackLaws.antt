@@ -25,11 +25,15 @@ use Rattle.serial.specs.Serials.{Given, noSerial, serialOf, givenBy, serialRule
 use Rattle.dj.specs.DjTaking.{isDeclared, isPairedWith, radioRule, unpairedRule, wpidOf, reportsOf, pairedRule, linkRule, otherRule, takeDj}
 use Rattle.request.specs.Requesting.{isForbidden, RequestAt, requestBy, requestAt}
 use Rattle.listing.specs.Listing.{listingRule}
+use Rattle.store.specs.Stores.{storeRule}
+use Rattle.restore.specs.Restoring as restores
+use Rattle.restore.specs.Restoring.{StoreRead, storeOf, ofOther, brokenAt, readStore, restoredBy, restorePorts}
+use Rattle.keeping.specs.LinesLaws.{line-bounds}
 use Rattle.station.specs.declared.Station.{Station}
 use Rattle.station.specs.Stations.{portCount, positionOf, portFor}
 use Rattle.station.specs.StationTaking.{TakeOutcome, storedAt, withDrops, alsoAt, takeBy, takeRule}
-use Rattle.station.specs.StationCalls.{RequestOutcome, requestRule, endedOn, tickAll}
-use Rattle.sequence.specs.Steps.{Writer, switch, getPaired, led, list, Call, CallAnswer, taken, written, cancelled, ticked, step, returnedBy}
+use Rattle.station.specs.StationCalls.{RequestOutcome, requestRule, endedOn, tickAll, restoreRule}
+use Rattle.sequence.specs.Steps.{Writer, switch, getPaired, led, list, store, Call, CallAnswer, taken, written, cancelled, ticked, restoring, step, returnedBy}
 use Rattle.sequence.specs.Steps as steps
 use Rattle.sequence.specs.IndependenceLaws.{Seven, seven-step}
 use Rattle.encoded.specs.declared.RunResult.{RunResult}
@@ -60,19 +64,26 @@ FitsWritten : writing.WriteAnswer → Type 0
 FitsWritten (writing.refused number) = Unit {0}
 FitsWritten (writing.wrote n) = InTwoBytes n
 
+FitsRestored : restores.RestoreAnswer → Type 0
+FitsRestored (restores.refused number) = Unit {0}
+FitsRestored (restores.refusedAt number line) = 1 ≤ line
+FitsRestored restores.restored = Unit {0}
+
 FitsBy : CallAnswer → Type 0
 FitsBy (taken a) = FitsTaken a
 FitsBy (written a) = FitsWritten a
 FitsBy (cancelled a) = Unit {0}
 FitsBy (ticked counts) = length counts ≡ portCount
+FitsBy (restoring a) = FitsRestored a
 
 fits-by : (x : CallAnswer) → FitsBy x → FitsRow x
-unfolding FitsBy FitsTaken FitsWritten
+unfolding FitsBy FitsTaken FitsWritten FitsRestored
 fits-by x f =
     record {
       paired = λ port more wpid reports dropped e. subst FitsBy e f;
       written = λ n e. subst FitsBy e f;
       counts = λ counts e. subst FitsBy e f;
+      line = λ number line e. subst FitsBy e f;
     }
 
 -- of a report of bytes
@@ -171,13 +182,24 @@ module _ (lent : List ℕ) (room : InTwoBytes (length lent)) where
       by-case FitsRequest (not (isPort device)) (λ e. record { holds = tt }) (λ e. record { holds = request-at-fits _ device byte2 byte3 ticks params offset .holds })
 
   writer-fits : (st : Station) (writer : Writer) (offset : ℕ) → FitsOutcome (steps.writerRule st writer offset lent)
-  unfolding FitsWritten writing.switchRule writing.getPairedRule writing.ledRule listingRule
+  unfolding FitsWritten writing.switchRule writing.getPairedRule writing.ledRule listingRule storeRule
   writer-fits st (switch bits timeout) offset =
       by-case FitsOutcome (writing.hasReservedBits bits) (λ e. record { holds = tt }) (λ e. frame-fits _ offset)
   writer-fits st getPaired offset = frame-fits _ offset
   writer-fits st (led device leds) offset =
       by-case FitsOutcome (not (isDevice device)) (λ e. record { holds = tt }) (λ e. frame-fits _ offset)
   writer-fits st list offset = frame-fits _ offset
+  writer-fits st store offset = frame-fits _ offset
+
+-- the line of a refused restore is at least 1
+restore-fits : (st : Station) (text : List ℕ) → FitsRestored (restoreRule st text .answer)
+unfolding FitsRestored restoreRule restorePorts
+restore-fits st text = go (readStore text) refl
+  where
+    go : (x : StoreRead) → readStore text ≡ x → FitsRestored (restoredBy (st .ports) x .answer)
+    go (storeOf ports) e = tt
+    go ofOther e = tt
+    go (brokenAt line) e = line-bounds text line e .0
 
 -- each call
 step-fits : (st : Station) (c : Call) → Seven st → Within c → FitsBy (step st c .answer)
@@ -191,6 +213,8 @@ step-fits st (steps.write (switch bits timeout) offset lent) s w = writer-fits l
 step-fits st (steps.write getPaired offset lent) s w = writer-fits lent (w .room) st getPaired offset .holds
 step-fits st (steps.write (led device leds) offset lent) s w = writer-fits lent (w .room) st (led device leds) offset .holds
 step-fits st (steps.write list offset lent) s w = writer-fits lent (w .room) st list offset .holds
+step-fits st (steps.write store offset lent) s w = writer-fits lent (w .room) st store offset .holds
+step-fits st (steps.restore text) s w = restore-fits st text
 
 pub all-fit : (st : Station) → Seven st → (cs : List Call) → AllWithin cs → AllFit (returnedBy st cs)
 unfolding returnedBy AllWithin AllFit

@@ -1,5 +1,5 @@
 -- The row of one answer: ten bytes, of which the first says the kind and the others carry its values, the lowest byte of a number first.
-use Prim.Native.Nat.{ℕ}
+use Prim.Native.Nat.{ℕ, _≤_}
 use mathlib.Core.Path.{_≡_}
 use mathlib.Core.Bool.{Bool, true, false, cond}
 use mathlib.Core.List.{List, [], _∷_, _++_}
@@ -9,8 +9,9 @@ use Rattle.report.specs.Sizes.{joined2, joined4}
 use Rattle.frame.specs.Writing as writing
 use Rattle.port.specs.Answers as answers
 use Rattle.port.specs.Waiting as waiting
+use Rattle.restore.specs.Restoring as restores
 use Rattle.station.specs.Stations.{portCount}
-use Rattle.sequence.specs.Steps.{CallAnswer, taken, written, cancelled, ticked}
+use Rattle.sequence.specs.Steps.{CallAnswer, taken, written, cancelled, ticked, restoring}
 use Rattle.encoded.specs.Encoding.{low, high, InTwoBytes, InFourBytes}
 
 abbrev pub rowSize : ℕ
@@ -60,11 +61,18 @@ abbrev pub tickedRow : List ℕ → List ℕ
 tickedRow counts =
     row (16 ∷ getD counts 0 0 ∷ getD counts 1 0 ∷ getD counts 2 0 ∷ getD counts 3 0 ∷ getD counts 4 0 ∷ getD counts 5 0 ∷ getD counts 6 0 ∷ [])
 
+-- of a refused restore the number, and of 16 the line
+abbrev pub restoredRow : restores.RestoreAnswer → List ℕ
+restoredRow (restores.refused number) = row (17 ∷ number ∷ [])
+restoredRow (restores.refusedAt number line) = row (17 ∷ number ∷ line ∷ [])
+restoredRow restores.restored = row (18 ∷ [])
+
 unfoldable pub encodeAnswer : CallAnswer → List ℕ
 encodeAnswer (taken a) = takenRow a
 encodeAnswer (written a) = writtenRow a
 encodeAnswer (cancelled a) = cancelledRow a
 encodeAnswer (ticked counts) = tickedRow counts
+encodeAnswer (restoring a) = restoredRow a
 
 abbrev pub at : List ℕ → ℕ → ℕ
 at row i = getD row i 0
@@ -74,6 +82,11 @@ isSet n = eqb n 1
 
 abbrev pub aboutIn : List ℕ → answers.About
 aboutIn row = record { port = at row 1; byte2 = at row 2; byte3 = at row 3; start = at row 4; size = at row 5 }
+
+-- lines are counted from 1: where 0 stands there is none
+abbrev pub refusedIn : List ℕ → restores.RestoreAnswer
+refusedIn row =
+    cond (eqb (at row 2) 0) (restores.refused (at row 1)) (restores.refusedAt (at row 1) (at row 2))
 
 -- the answer that a row encodes
 unfoldable pub decodeAnswer : List ℕ → CallAnswer
@@ -94,10 +107,13 @@ decodeAnswer row =
     (cond (eqb (at row 0) 13) (written (writing.wrote (joined2 (at row 1) (at row 2))))
     (cond (eqb (at row 0) 14) (cancelled (waiting.CancelAnswer.refused (at row 1)))
     (cond (eqb (at row 0) 15) (cancelled waiting.done)
-    (ticked (take portCount (drop 1 row))))))))))))))))))
+    (cond (eqb (at row 0) 16) (ticked (take portCount (drop 1 row)))
+    (cond (eqb (at row 0) 17) (restoring (refusedIn row))
+    (restoring restores.restored))))))))))))))))))
 
--- what a row can carry: two bytes of a WPID and of a count of bytes written, four of a bitfield, and seven counts
+-- what a row can carry: two bytes of a WPID and of a count of bytes written, four of a bitfield, seven counts, and the number of a line, from 1 on
 pub record FitsRow (x : CallAnswer) : Type 0 where
   pub paired : (port : ℕ) (more : Bool) (wpid reports dropped : ℕ) → x ≡ taken (answers.notice (answers.paired port more wpid reports dropped)) → InTwoBytes wpid × InFourBytes reports
   pub written : (n : ℕ) → x ≡ written (writing.wrote n) → InTwoBytes n
   pub counts : (counts : List ℕ) → x ≡ ticked counts → length counts ≡ portCount
+  pub line : (number line : ℕ) → x ≡ restoring (restores.refusedAt number line) → 1 ≤ line

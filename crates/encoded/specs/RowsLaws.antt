@@ -6,12 +6,14 @@ use mathlib.Core.List.{List, [], _∷_}
 use native.Mathlib.Omega.{arith}
 use native.Mathlib.Nat.{div-add-mod'}
 use lib.ListN.{length, length-append}
+use borrow.Author.Tests.{ne-eqb}
 use Rattle.report.specs.Sizes.{joined2, joined4}
 use Rattle.frame.specs.Writing as writing
 use Rattle.port.specs.Answers as answers
 use Rattle.port.specs.Waiting as waiting
+use Rattle.restore.specs.Restoring as restores
 use Rattle.station.specs.declared.Station.{Station}
-use Rattle.sequence.specs.Steps.{Call, CallAnswer, taken, written, cancelled, ticked, step, returnedBy}
+use Rattle.sequence.specs.Steps.{Call, CallAnswer, taken, written, cancelled, ticked, restoring, step, returnedBy}
 use Rattle.encoded.specs.Encoding.{byteValues, low, high, InTwoBytes, InFourBytes}
 use Rattle.encoded.specs.Rows.{rowSize, encodeAnswer, at, decodeAnswer, FitsRow}
 use Rattle.encoded.specs.EncodedRuns.{rows, rowsSize}
@@ -56,6 +58,9 @@ reads-back (written (writing.wrote n)) f = simp (two n (f .written _ refl))
 reads-back (cancelled (waiting.CancelAnswer.refused number)) f = refl
 reads-back (cancelled waiting.done) f = refl
 reads-back (ticked counts) f = ap ticked (seven counts (f .counts _ refl))
+reads-back (restoring (restores.refused number)) f = refl
+reads-back (restoring (restores.refusedAt number line)) f = simp (ne-eqb line 0 (λ e. omega (arith, e, f .line _ _ refl)))
+reads-back (restoring restores.restored) f = refl
 
 -- so no two answers have the same row
 pub tells-apart : (x y : CallAnswer) → FitsRow x → FitsRow y → encodeAnswer x ≡ encodeAnswer y → x ≡ y
@@ -81,6 +86,9 @@ row-length (written (writing.wrote n)) = refl
 row-length (cancelled (waiting.CancelAnswer.refused number)) = refl
 row-length (cancelled waiting.done) = refl
 row-length (ticked counts) = refl
+row-length (restoring (restores.refused number)) = refl
+row-length (restoring (restores.refusedAt number line)) = refl
+row-length (restoring restores.restored) = refl
 
 -- the rows take as many bytes as are counted
 pub rows-length : (st : Station) (cs : List Call) → length (rows (returnedBy st cs)) ≡ rowsSize cs

@@ -10,7 +10,7 @@ use Rattle.report.specs.ChoicesLaws.{by-case}
 use Rattle.report.specs.Sizes.{byte, joined2}
 use Rattle.sequence.specs.Steps as steps
 use Rattle.encoded.specs.declared.block.Header.{Header}
-use Rattle.encoded.specs.Blocks.{headerSize, takeOpcode, requestOpcode, cancelOpcode, tickOpcode, switchOpcode, getPairedOpcode, ledOpcode, headerOf, isWriter, lentSize, isWhole, blockWriter, blockCall}
+use Rattle.encoded.specs.Blocks.{headerSize, takeOpcode, requestOpcode, cancelOpcode, tickOpcode, switchOpcode, getPairedOpcode, ledOpcode, listOpcode, restoreOpcode, headerOf, isWriter, lentSize, isWhole, blockWriter, blockCall}
 use Rattle.encoded.specs.Decoding.{Decoded, malformed, calls, followed, atEnd, firstCall, restOf, decodeBy, decode}
 use Rattle.encoded.specs.Encoding.{Byte, InTwoBytes, Bytes, Within, AllWithin}
 
@@ -79,7 +79,9 @@ module _ (h : Header) (f : Fields h) (bytes lent : List ℕ) (data-bytes : Bytes
       (λ e. record { a = none; b = none; c = none; ticks = zero-in-two; offset = f .offset; size = zero-in-two; room = room; bytes = no-bytes; lent = lent-bytes })
       (λ e. by-case (λ (w : steps.Writer). Within (steps.write w (h .offset) lent)) (eqb (h .op) ledOpcode)
       (λ e. record { a = f .a; b = f .b; c = none; ticks = zero-in-two; offset = f .offset; size = zero-in-two; room = room; bytes = no-bytes; lent = lent-bytes })
-      (λ e. record { a = none; b = none; c = none; ticks = zero-in-two; offset = f .offset; size = zero-in-two; room = room; bytes = no-bytes; lent = lent-bytes })))
+      (λ e. by-case (λ (w : steps.Writer). Within (steps.write w (h .offset) lent)) (eqb (h .op) listOpcode)
+      (λ e. record { a = none; b = none; c = none; ticks = zero-in-two; offset = f .offset; size = zero-in-two; room = room; bytes = no-bytes; lent = lent-bytes })
+      (λ e. record { a = none; b = none; c = none; ticks = zero-in-two; offset = f .offset; size = zero-in-two; room = room; bytes = no-bytes; lent = lent-bytes }))))
 
   call-within : Within (blockCall h bytes lent)
   unfolding blockCall
@@ -92,7 +94,9 @@ module _ (h : Header) (f : Fields h) (bytes lent : List ℕ) (data-bytes : Bytes
       (λ e. record { a = f .a; b = f .b; c = f .c; ticks = zero-in-two; offset = zero-in-two; size = zero-in-two; room = zero-in-two; bytes = no-bytes; lent = no-bytes })
       (λ e. by-case Within (eqb (h .op) tickOpcode)
       (λ e. record { a = none; b = none; c = none; ticks = zero-in-two; offset = zero-in-two; size = zero-in-two; room = zero-in-two; bytes = no-bytes; lent = no-bytes })
-      (λ e. writer-within))))
+      (λ e. by-case Within (eqb (h .op) restoreOpcode)
+      (λ e. record { a = none; b = none; c = none; ticks = zero-in-two; offset = zero-in-two; size = size; room = zero-in-two; bytes = data-bytes; lent = no-bytes })
+      (λ e. writer-within)))))
 
 lent-size : (h : Header) → lentSize h ≤ h .lent
 unfolding lentSize

@@ -21,6 +21,10 @@ pub const LED: u8 = 6;
 
 pub const LIST: u8 = 7;
 
+pub const STORE: u8 = 8;
+
+pub const RESTORE: u8 = 9;
+
 // What a header says: the opcode, three byte arguments, ticks, offset, and the lengths of the data and of the lent buffer.
 pub struct Header {
     pub op: u8,
@@ -49,14 +53,17 @@ pub fn read_header(bytes: &[u8]) -> Header
     }
 }
 
-// Whether the call is lent a buffer: all except take, cancel and tick are.
+// Whether the call is lent a buffer: all except take, cancel, tick and restore are.
 fn is_writer(op: u8) -> bool
     ensures { λ r. ⌜ r ≡ isWriter op ⌝ }
 {
     if op == REQUEST {
         return true;
     }
-    SWITCH <= op
+    if op < SWITCH {
+        return false;
+    }
+    op <= STORE
 }
 
 // How many bytes of the arena the call is lent.
@@ -73,7 +80,7 @@ pub fn lent_size(h: Header) -> usize
 pub fn is_whole(h: Header, left: usize, room: usize) -> bool
     ensures whole { λ r. ⌜ r ≡ isWhole h left room ⌝ }
 {
-    if h.op <= LIST {
+    if h.op <= RESTORE {
         if HEADER + (h.size as usize) <= left {
             return lent_size(h) <= room;
         }

@@ -1,8 +1,9 @@
 // An encoded sequence of calls, and the function that makes them on a station.
 ghost use mathlib.Core.Path.{_≡_};
+ghost use mathlib.Core.List.{[]};
 ghost use lib.ListN.{length};
 ghost use Rattle.station.specs.Stations.{freshStation};
-ghost use Rattle.sequence.specs.Steps.{writerRule};
+ghost use Rattle.sequence.specs.Steps.{writerRule, restore};
 ghost use Rattle.encoded.specs.Blocks.{lentSize, blockWriter, blockCall};
 ghost use Rattle.encoded.specs.EncodedRuns.{encodedRule};
 ghost use Rattle.encoded.specs.EncodedContracts.{MadePromise, CheckPromise, Ready, EncodedPromise, cLeft, cRunOutcome};
@@ -77,8 +78,20 @@ fn write(station: Station, h: Header, buffer: &mut [u8]) -> Written
         block::SWITCH => station.switch(h.a, h.b, buffer, offset),
         block::GET_PAIRED => station.get_paired(buffer, offset),
         block::LED => station.led(Device(h.a), h.b, buffer, offset),
-        _ => station.list(buffer, offset),
+        block::LIST => station.list(buffer, offset),
+        _ => station.store(buffer, offset),
     }
+}
+
+// Reads a store: it is lent no buffer.
+fn restore_from(station: Station, text: &[u8]) -> Called
+    ensures { λ r. ⌜ MadePromise station (restore (now (text .entry))) r [] ⌝ }
+{
+    let read = station.restore(text);
+    let answer = read.answer;
+    let row = rows::of_restored(answer);
+    let next = read.station;
+    Called { row, station: next }
 }
 
 // Makes the call that a header and its data say, on a buffer of the length that it says.
@@ -119,6 +132,7 @@ fn call(station: Station, h: Header, bytes: &[u8], buffer: &mut [u8]) -> Called
             let next = ticked.station;
             Called { row, station: next }
         }
+        block::RESTORE => restore_from(station, bytes),
         _ => {
             let row = rows::of_written(write(station, h, buffer));
             Called { row, station }

@@ -2,14 +2,16 @@
 ghost use mathlib.Core.Path.{_≡_};
 ghost use Rattle.port.specs.Answers.{paired};
 ghost use Rattle.encoded.specs.Encoding.{low};
-ghost use Rattle.encoded.specs.Rows.{bitOf, aboutRow, noticeRow, takenRow, writtenRow, cancelledRow, tickedRow};
+ghost use Rattle.encoded.specs.Rows.{bitOf, aboutRow, noticeRow, takenRow, writtenRow, cancelledRow, tickedRow, restoredRow};
 ghost use Rattle.port.specs.PortContracts.{aboutOf, takenOf, noticeOf, cancelOf};
 ghost use Rattle.frame.specs.FrameContracts.{writtenOf};
+ghost use Rattle.restore.specs.RestoreContracts.{restoredOf};
 use frame::Written;
 use port::answer::About;
 use port::answer::Notice;
 use port::answer::Taken;
 use port::waiting::Cancelled;
+use restore::Restored;
 
 // The longest answer is a pairing: kind, port, more, two bytes of WPID, four of bitfield, and the count of dropped requests.
 pub const ROW: usize = 1 + 1 + 1 + 2 + 4 + 1;
@@ -139,4 +141,14 @@ pub fn of_ticked(counts: [u8; port::PORTS]) -> [u8; ROW]
         0,
         0,
     ]
+}
+
+pub fn of_restored(answer: Restored) -> [u8; ROW]
+    ensures row { λ r. ⌜ r ≡ restoredRow (restoredOf answer) ⌝ }
+{
+    match answer {
+        Restored::Refused(refusal) => [17, refusal.number(), 0, 0, 0, 0, 0, 0, 0, 0],
+        Restored::RefusedAt(refusal, line) => [17, refusal.number(), line, 0, 0, 0, 0, 0, 0, 0],
+        Restored::Done => [18, 0, 0, 0, 0, 0, 0, 0, 0, 0],
+    }
 }

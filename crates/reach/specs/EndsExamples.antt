@@ -11,7 +11,8 @@ use Rattle.port.specs.Places.{isEmpty, sumOver}
 use Rattle.port.specs.Waiting as waiting
 use Rattle.port.specs.Answers.{About, reply, stray, failed, notice, unpaired, paired}
 use Rattle.station.specs.Stations.{positionOf}
-use Rattle.sequence.specs.Steps.{Call, take, cancel, tick, CallAnswer, taken, cancelled, ticked}
+use Rattle.restore.specs.Restoring.{refusedAt}
+use Rattle.sequence.specs.Steps.{Call, take, cancel, tick, restore, CallAnswer, taken, cancelled, ticked, restoring}
 use Rattle.reach.specs.Ends.{Way, byReply, byError, byExpiry, byCancel, byDrop, endingOf, endsBy, oneIf, endedBy, endedInAll, begunOn, Fate, stays, lowered, filled, emptied, waitingOn, EndsAt}
 
 -- on a port: those ended by reply, by error, expired, cancelled, dropped
@@ -45,6 +46,14 @@ record Ended : Type 0 where
   refused : ended 2 (cancel 2 0 0x11) (cancelled (waiting.CancelAnswer.refused 13)) ≡ 0 ∷ 0 ∷ 0 ∷ 0 ∷ 0 ∷ []
   unpaired : ended 2 (take []) (taken (notice (unpaired 2 4))) ≡ 0 ∷ 0 ∷ 0 ∷ 0 ∷ 4 ∷ []
   paired : ended 2 (take []) (taken (notice (paired 2 false 0x2010 0x0E 3))) ≡ 0 ∷ 0 ∷ 0 ∷ 0 ∷ 3 ∷ []
+
+-- a read, which is refused, begins and ends nothing
+record Unheeded : Type 0 where
+  ends : ended 2 (restore []) (restoring (refusedAt 16 1)) ≡ 0 ∷ 0 ∷ 0 ∷ 0 ∷ 0 ∷ []
+  begins : begunOn 2 (restore []) (restoring (refusedAt 16 1)) ≡ 0
+
+unheeded : Unheeded
+unheeded = record { ends = refl; begins = refl }
 
 all-ended : Ended
 unfolding positionOf

@@ -14,7 +14,8 @@ use Rattle.port.specs.Waiting as waiting
 use Rattle.frame.specs.Writing as writing
 use Rattle.port.specs.Answers.{About, Answer, refused, reply, stray, plain, event, failed, radio, notice, unpaired, paired, link, other}
 use Rattle.serial.specs.Serials.{givenBy}
-use Rattle.sequence.specs.Steps.{getPaired, Call, take, request, cancel, tick, write, CallAnswer, taken, written, cancelled, ticked}
+use Rattle.restore.specs.Restoring.{refusedAt}
+use Rattle.sequence.specs.Steps.{getPaired, Call, take, request, cancel, tick, write, restore, CallAnswer, taken, written, cancelled, ticked, restoring}
 use Rattle.reach.specs.Fields.{pairing, wpid, bitfield, linkUp, version, features, battery, serial, places, lists}
 
 -- device 2, paired with WPID 0x2010: 0x1000 has index 8, 0x1D4B index 9
@@ -97,6 +98,7 @@ record Listed : Type 0 where
   cancelled : listed (cancel 2 0 0x11) (cancelled waiting.done) ≡ false ∷ false ∷ false ∷ false ∷ false ∷ false ∷ false ∷ false ∷ true ∷ []
   ticked : listed tick (ticked []) ≡ false ∷ false ∷ false ∷ false ∷ false ∷ false ∷ false ∷ false ∷ true ∷ []
   writer : listed (write getPaired 0 []) (written (writing.wrote 15)) ≡ no
+  reader : listed (restore []) (restoring (refusedAt 16 1)) ≡ no
 
 all-listed : Listed
 unfolding port2 port255 asked2 withFeatures withPairing withPlaces withSerial freshPort emptyPlace firstAt givenBy reportFrom
@@ -132,4 +134,5 @@ all-listed =
       cancelled = refl;
       ticked = refl;
       writer = refl;
+      reader = refl;
     }

@@ -13,7 +13,7 @@ use Rattle.replay_line.specs.LineFields.{mostLent}
 use Rattle.replay_line.specs.Commands as commands
 use Rattle.replay_line.specs.LineCalls.{lineRule}
 use Rattle.replay_taken.specs.TakenLines.{takenText}
-use Rattle.replay_render.specs.AnswerLines.{lentMost, writtenText, cancelledText, endedText, readingText, movedText, noCallText}
+use Rattle.replay_render.specs.AnswerLines.{lentMost, writtenText, cancelledText, endedText, restoredText, readingText, movedText, noCallText}
 use Rattle.replay_dump.specs.DumpLines.{dumpText}
 
 -- its text, and the next station
@@ -31,6 +31,7 @@ callText (steps.taken answer) lent = takenText answer
 callText (steps.written answer) lent = writtenText answer lent
 callText (steps.cancelled answer) lent = cancelledText answer
 callText (steps.ticked counts) lent = endedText counts
+callText (steps.restoring answer) lent = restoredText answer
 
 -- a step of the station
 abbrev pub stepped : steps.Outcome → LineAnswer
@@ -48,6 +49,8 @@ writerStep st (commands.led port leds) offset params lent =
     steps.step st (steps.write (steps.led port leds) offset lent)
 writerStep st commands.list offset params lent =
     steps.step st (steps.write steps.list offset lent)
+writerStep st commands.store offset params lent =
+    steps.step st (steps.write steps.store offset lent)
 writerStep st (commands.frame port byte2 byte3) offset params lent =
     steps.writeStep st (writing.requestFrameRule port byte2 byte3 params offset lent)
 
@@ -66,6 +69,7 @@ commandRule st number (commands.take bytes) = stepped (steps.step st (steps.take
 commandRule st number (commands.cancel port byte2 byte3) =
     stepped (steps.step st (steps.cancel port byte2 byte3))
 commandRule st number commands.tick = stepped (steps.step st steps.tick)
+commandRule st number (commands.restore bytes) = stepped (steps.step st (steps.restore bytes))
 commandRule st number (commands.read bytes) = keeping st (readingText (readRule bytes))
 commandRule st number (commands.mouse payload) = keeping st (movedText (mouseRule payload))
 commandRule st number commands.dump = keeping st (dumpText st)

@@ -86,6 +86,19 @@ fn tick(station: Station, buffer: &mut [u8], at: usize) -> Shown
     }
 }
 
+fn restore(station: Station, text: &[u8], buffer: &mut [u8], at: usize) -> Shown
+    requires { ⌜ fitsAt answerRoom at (length (now buffer)) ≡ true ⌝ }
+    ensures { λ r. ⌜ Shows (stepped (steps.step station (steps.restore (now (text .entry))))) at (now (buffer .entry)) r (now (buffer .exit)) ⌝ }
+{
+    let restored = station.restore(text);
+    let answer = restored.answer;
+    let after = restored.station;
+    Shown {
+        next: replay_render::put_restored(buffer, at, answer),
+        station: after,
+    }
+}
+
 // Makes the call of a writer on its lent buffer.
 fn make(
     station: Station,
@@ -107,6 +120,7 @@ fn make(
         Writer::GetPaired => station.get_paired(lent, offset),
         Writer::Led { port, leds } => station.led(port, leds, lent, offset),
         Writer::List => station.list(lent, offset),
+        Writer::Store => station.store(lent, offset),
         Writer::Frame { port, byte2, byte3 } => {
             frame::request_frame(port, byte2, byte3, params, lent, offset)
         }
@@ -184,6 +198,7 @@ fn respond(
             return cancel(station, port, byte2, byte3, buffer, at);
         }
         Command::Tick => return tick(station, buffer, at),
+        Command::Restore => return restore(station, bytes, buffer, at),
         Command::Read => replay_render::put_reading(buffer, at, report::read(bytes)),
         Command::Mouse => replay_render::put_moved(buffer, at, mouse::movement(bytes)),
         Command::Dump => replay_dump::put_dump(buffer, at, station),
@@ -196,11 +211,12 @@ fn respond(
     Shown { next, station }
 }
 
-// Answers one line, which comes without its newline and has this number. Where there is less room from `at` on than the longest answer takes, nothing is done: refusal 10.
+// Answers one line, which comes without its newline and has this number. Where there is less room from `at` on than the longest answer takes, nothing is done: refusal 10. `bytes` are for those of the call; they are lent so that they need not be made for each line.
 pub fn answer_line(
     station: Station,
     number: usize,
     line: &[u8],
+    bytes: &mut [u8; replay_line::MOST_LENT],
     buffer: &mut [u8],
     at: usize,
 ) -> Answered
@@ -213,11 +229,11 @@ pub fn answer_line(
             station,
         };
     }
-    let parsed = replay_line::parse_line(line);
+    let parsed = replay_line::parse_line(line, bytes);
     let command = parsed.command;
-    let bytes = parsed.bytes;
     let count = parsed.count;
-    let shown = respond(station, number, command, &bytes[..count], buffer, at);
+    let held: &[u8] = bytes;
+    let shown = respond(station, number, command, &held[..count], buffer, at);
     let after = shown.station;
     Answered {
         answer: Written::Bytes(shown.next - at),

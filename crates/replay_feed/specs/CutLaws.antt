@@ -121,7 +121,7 @@ cut-line : (front : List ℕ) (last : ℕ) (rest : List ℕ) → longest ≤ len
 unfolding squeezed
 cut-line [] last rest h = absurd (omega (arith, h))
 cut-line (c ∷ text) last rest h =
-    cut-front c text 1022 (lit≤ tt) h ∙ sym (whole-line c text last rest (omega (arith, h)))
+    cut-front c text (longest - 2) (lit≤ tt) h ∙ sym (whole-line c text last rest (omega (arith, h)))
 
 -- a line that is made shorter and goes on, or is cut, is the call that it is whole
 module _ (front : List ℕ) (last : ℕ) where

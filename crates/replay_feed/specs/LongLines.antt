@@ -22,7 +22,7 @@ squeezedLine line = squeezed false (take (length line - 1) line) ++ drop (length
 
 -- a round limit: with one space between its words no call is longer than `callMost` (crate replay_line, LineBoundsLaws), and CutLaws shows that it is enough
 abbrev pub longest : ℕ
-longest = 1024
+longest = 16384
 
 -- what is still longer is cut
 abbrev pub isCut : List ℕ → Bool

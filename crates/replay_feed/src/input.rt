@@ -9,7 +9,7 @@ ghost use Rattle.replay_feed.specs.InputContracts.{Moves};
 const SPACE: u8 = 32;
 
 // A round limit, above the longest call with one space between its words (`callMost` of crate replay_line).
-pub const LONGEST: usize = 1024;
+pub const LONGEST: usize = 16384;
 
 // Moves the bytes between two offsets down to another one, and answers where they end.
 pub(crate) fn move_down(buffer: &mut [u8], to: usize, from: usize, end: usize) -> usize

@@ -9,6 +9,7 @@ pub data LineWriter : Type 0 where
   getPaired : LineWriter
   led : (port leds : ℕ) → LineWriter
   list : LineWriter
+  store : LineWriter
   frame : (port byte2 byte3 : ℕ) → LineWriter
 
 -- a writer is lent a buffer of `room` bytes; a request and a frame have parameters
@@ -18,6 +19,7 @@ pub data Command : Type 0 where
   take : (bytes : List ℕ) → Command
   cancel : (port byte2 byte3 : ℕ) → Command
   tick : Command
+  restore : (bytes : List ℕ) → Command
   read : (bytes : List ℕ) → Command
   mouse : (payload : List ℕ) → Command
   dump : Command

@@ -15,7 +15,7 @@ use Rattle.replay_line.specs.LineWords.{words, sameWord}
 use Rattle.replay_line.specs.LineValues.{hexByte, allDigits, valueAfter, leadingZero, greatest, digitsAfter, number}
 use Rattle.replay_line.specs.LineValuesLaws.{grows}
 use Rattle.replay_line.specs.LineFields.{NextValue, nothing, got, valued, first, andThen, upTo, greatestPort, mostLent, roomNumber, portNumber, portAndBytes, Lent, lent, inFront, bytesOf, mostBytes, limited}
-use Rattle.replay_line.specs.Commands.{LineWriter, Command, blank, noCall, take, tick, read, mouse, dump}
+use Rattle.replay_line.specs.Commands.{LineWriter, Command, blank, noCall, take, tick, restore, read, mouse, dump}
 use Rattle.replay_line.specs.LineCalls.{withNoMore, given, withBytes, lentAlone, lentBytes, requestCall, cancelCall, switchCall, ledCall, frameCall, LineRow, otherRows, writerRows, table, commandNamed, commandIn, withoutReturn, hash, textRule, lineRule}
 use Rattle.replay_line.specs.LineContracts.{lentRoom}
 
@@ -203,19 +203,19 @@ unfolding bytesOf sizeOf
 all-bytes [] = omega arith
 all-bytes (word ∷ following) = before-bytes word following (hexByte word) (bytesOf following) (byte-fits word) (all-bytes following)
 
-abbrev bytesMost : ℕ
-bytesMost = byteMost * mostBytes
+abbrev bytesMost : ℕ → ℕ
+bytesMost most = byteMost * most
 
-module _ (command : List ℕ → Command) (lends : (bytes : List ℕ) → lentRoom (command bytes) ≤ mostLent) (words : List (List ℕ)) where
-  limited-by : (bytes : List ℕ) (t : Bool) → leb (length bytes) mostBytes ≡ t → sizeOf words ≤ byteMost * length bytes → Bounded bytesMost words (given (cond t (some bytes) none) command)
-  limited-by bytes true e h = a-call (omega (arith, h, leb-true (length bytes) mostBytes e)) (lends bytes)
+module _ (most : ℕ) (command : List ℕ → Command) (lends : (bytes : List ℕ) → lentRoom (command bytes) ≤ mostLent) (words : List (List ℕ)) where
+  limited-by : (bytes : List ℕ) (t : Bool) → leb (length bytes) most ≡ t → sizeOf words ≤ byteMost * length bytes → Bounded (bytesMost most) words (given (cond t (some bytes) none) command)
+  limited-by bytes true e h = a-call (omega (arith, h, leb-true (length bytes) most e)) (lends bytes)
   limited-by bytes false e h = none-called refl
 
-  given-bounded : (o : Option (List ℕ)) → Bytes words o → Bounded bytesMost words (given (limited o) command)
+  given-bounded : (o : Option (List ℕ)) → Bytes words o → Bounded (bytesMost most) words (given (limited most o) command)
   given-bounded none h = none-called refl
-  given-bounded (some bytes) h = limited-by bytes (leb (length bytes) mostBytes) refl h
+  given-bounded (some bytes) h = limited-by bytes (leb (length bytes) most) refl h
 
-  bytes-bounded : Bounded bytesMost words (withBytes command words)
+  bytes-bounded : Bounded (bytesMost most) words (withBytes most command words)
   unfolding withBytes
   bytes-bounded = given-bounded (bytesOf words) (all-bytes words)
 
@@ -223,19 +223,20 @@ lent-alone : (writer : LineWriter) (words : List (List ℕ)) → Bounded lentMos
 lent-alone writer words =
     then-bounded Within lentMost 0 words (lent words) _ (lent-takes words) λ at h words. no-more-bounded _ words h
 
-lent-bytes : (writer : LineWriter) (words : List (List ℕ)) → Bounded (lentMost + bytesMost) words (lentBytes writer words)
+lent-bytes : (writer : LineWriter) (words : List (List ℕ)) → Bounded (lentMost + bytesMost mostBytes) words (lentBytes writer words)
 lent-bytes writer words =
-    then-bounded Within lentMost bytesMost words (lent words) _ (lent-takes words) λ at h words. bytes-bounded _ (λ bytes. h) words
+    then-bounded Within lentMost (bytesMost mostBytes) words (lent words) _ (lent-takes words) λ at h words. bytes-bounded mostBytes _ (λ bytes. h) words
 
--- the longest call is a request with all parameters: its port and bytes 2 and 3, its ticks, and its lent buffer
+-- the longest call has the longest text of a store
 abbrev valuesMost : ℕ
-valuesMost = portAndBytesMost + (numberMost + (lentMost + bytesMost))
+valuesMost = bytesMost mostLent
 
 request-bounded : (words : List (List ℕ)) → Bounded valuesMost words (requestCall words)
 unfolding requestCall
 request-bounded words =
-    then-bounded Any portAndBytesMost _ words (portAndBytes words) _ (port-and-bytes-takes words) λ to h words.
-    then-bounded Any numberMost _ words (first number words) _ (number-takes words) λ ticks h words. lent-bytes _ words
+    at-most valuesMost (lit≤ tt)
+    (then-bounded Any portAndBytesMost (numberMost + (lentMost + bytesMost mostBytes)) words (portAndBytes words) _ (port-and-bytes-takes words) λ to h words.
+    then-bounded Any numberMost (lentMost + bytesMost mostBytes) words (first number words) _ (number-takes words) λ ticks h words. lent-bytes _ words)
 
 cancel-bounded : (words : List (List ℕ)) → Bounded valuesMost words (cancelCall words)
 unfolding cancelCall
@@ -259,7 +260,7 @@ led-bounded words =
 frame-bounded : (words : List (List ℕ)) → Bounded valuesMost words (frameCall words)
 unfolding frameCall
 frame-bounded words =
-    at-most valuesMost (lit≤ tt) (then-bounded Any portAndBytesMost (lentMost + bytesMost) words (portAndBytes words) _ (port-and-bytes-takes words) λ to h words. lent-bytes _ words)
+    at-most valuesMost (lit≤ tt) (then-bounded Any portAndBytesMost (lentMost + bytesMost mostBytes) words (portAndBytes words) _ (port-and-bytes-takes words) λ to h words. lent-bytes _ words)
 
 -- no name is longer
 abbrev nameMost : ℕ
@@ -292,8 +293,8 @@ rows-bounded no-row name words = none-called refl
 rows-bounded (a-row {r} {rows} n h others) name words =
     named-bounded name words r (commandNamed rows name words) (sameWord name (r .name)) refl n (h words) (rows-bounded others name words)
 
-with-bytes : (command : List ℕ → Command) → ((bytes : List ℕ) → lentRoom (command bytes) ≤ mostLent) → (words : List (List ℕ)) → Bounded valuesMost words (withBytes command words)
-with-bytes command lends words = at-most valuesMost (lit≤ tt) (bytes-bounded command lends words)
+with-bytes : (command : List ℕ → Command) → ((bytes : List ℕ) → lentRoom (command bytes) ≤ mostLent) → (words : List (List ℕ)) → Bounded valuesMost words (withBytes mostBytes command words)
+with-bytes command lends words = at-most valuesMost (lit≤ tt) (bytes-bounded mostBytes command lends words)
 
 others-bounded : AllBounded otherRows
 unfolding otherRows
@@ -309,14 +310,16 @@ writers-bounded =
     a-row (lit≤ tt) switch-bounded
     (a-row (lit≤ tt) (λ words. at-most valuesMost (lit≤ tt) (lent-alone _ words))
     (a-row (lit≤ tt) led-bounded
-    (a-row (lit≤ tt) (λ words. at-most valuesMost (lit≤ tt) (lent-alone _ words)) others-bounded)))
+    (a-row (lit≤ tt) (λ words. at-most valuesMost (lit≤ tt) (lent-alone _ words))
+    (a-row (lit≤ tt) (λ words. at-most valuesMost (lit≤ tt) (lent-alone _ words)) others-bounded))))
 
 table-bounded : AllBounded table
 table-bounded =
     a-row (lit≤ tt) (with-bytes take (λ bytes. lit≤ tt))
     (a-row (lit≤ tt) request-bounded
     (a-row (lit≤ tt) cancel-bounded
-    (a-row (lit≤ tt) (λ words. at-most valuesMost (lit≤ tt) (no-more-bounded tick words (lit≤ tt))) writers-bounded)))
+    (a-row (lit≤ tt) (λ words. at-most valuesMost (lit≤ tt) (no-more-bounded tick words (lit≤ tt)))
+    (a-row (lit≤ tt) (bytes-bounded mostLent restore (λ bytes. lit≤ tt)) writers-bounded))))
 
 call-bounded : (words : List (List ℕ)) → Bounded callMost words (commandIn words)
 call-bounded [] = none-called refl

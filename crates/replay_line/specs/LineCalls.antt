@@ -10,20 +10,20 @@ use Rattle.report.specs.Sizes.{byte}
 use Rattle.text.specs.Words.{ascii}
 use Rattle.replay_line.specs.LineWords.{words, sameWord, noWord}
 use Rattle.replay_line.specs.LineValues.{hexByte, number}
-use Rattle.replay_line.specs.LineFields.{first, andThen, portNumber, portAndBytes, lent, bytesOf, limited}
-use Rattle.replay_line.specs.Commands.{LineWriter, request, switch, getPaired, led, list, frame, Command, blank, noCall, take, cancel, tick, read, mouse, dump, write}
+use Rattle.replay_line.specs.LineFields.{first, andThen, portNumber, portAndBytes, mostLent, lent, bytesOf, mostBytes, limited}
+use Rattle.replay_line.specs.Commands.{LineWriter, request, switch, getPaired, led, list, store, frame, Command, blank, noCall, take, cancel, tick, restore, read, mouse, dump, write}
 
 -- no word more
 abbrev pub withNoMore : Command → List (List ℕ) → Command
 withNoMore command words = cond (noWord words) command noCall
 
--- the words that are left are bytes
+-- the words that are left are bytes, at most so many
 abbrev pub given : Option (List ℕ) → (List ℕ → Command) → Command
 given none command = noCall
 given (some bytes) command = command bytes
 
-unfoldable pub withBytes : (List ℕ → Command) → List (List ℕ) → Command
-withBytes command words = given (limited (bytesOf words)) command
+unfoldable pub withBytes : (most : ℕ) → (List ℕ → Command) → List (List ℕ) → Command
+withBytes most command words = given (limited most (bytesOf words)) command
 
 -- PLACE LEN, and no word more
 abbrev pub lentAlone : LineWriter → List (List ℕ) → Command
@@ -35,7 +35,7 @@ lentAlone writer words =
 abbrev pub lentBytes : LineWriter → List (List ℕ) → Command
 lentBytes writer words =
     andThen (lent words) noCall λ at words.
-    withBytes (write writer (at .offset) (at .room)) words
+    withBytes mostBytes (write writer (at .offset) (at .room)) words
 
 unfoldable pub requestCall : List (List ℕ) → Command
 requestCall words =
@@ -76,9 +76,9 @@ lineRow name call = record { name = ascii name; call = call }
 -- what needs no station, and the dump
 unfoldable pub otherRows : List LineRow
 otherRows =
-    lineRow "read" (withBytes read)
+    lineRow "read" (withBytes mostBytes read)
     ∷ lineRow "frame" frameCall
-    ∷ lineRow "mouse" (withBytes mouse)
+    ∷ lineRow "mouse" (withBytes mostBytes mouse)
     ∷ lineRow "dump" (withNoMore dump)
     ∷ []
 
@@ -89,14 +89,16 @@ writerRows =
     ∷ lineRow "get-paired" (lentAlone getPaired)
     ∷ lineRow "led" ledCall
     ∷ lineRow "list" (lentAlone list)
+    ∷ lineRow "store" (lentAlone store)
     ∷ otherRows
 
 abbrev pub table : List LineRow
 table =
-    lineRow "take" (withBytes take)
+    lineRow "take" (withBytes mostBytes take)
     ∷ lineRow "request" requestCall
     ∷ lineRow "cancel" cancelCall
     ∷ lineRow "tick" (withNoMore tick)
+    ∷ lineRow "restore" (withBytes mostLent restore)
     ∷ writerRows
 
 -- the row of a name; no call where there is none

@@ -8,11 +8,14 @@ use Rattle.replay_line.specs.declared.Parsed.{Parsed}
 use Rattle.replay_line.specs.LineWords.{words, sameWord}
 use Rattle.replay_line.specs.Commands.{Command}
 use Rattle.replay_line.specs.LineCalls.{otherRows, writerRows, table, commandNamed, commandIn, withoutReturn}
-use Rattle.replay_line.specs.LineContracts.{part, wordFrom, NextWord, Parses}
+use Rattle.replay_line.specs.LineContracts.{part, wordFrom, NextWord, Parses, ParsesBare}
 
 -- the same command said in another way
-pub same-command : {a b : Command} {p : Parsed} → Parses b p → a ≡ b → Parses a p
+pub same-command : {a b : Command} {p : Parsed} {buffer : List ℕ} → Parses b p buffer → a ≡ b → Parses a p buffer
 same-command h e = record { so = h .so ∙ sym e; within = h .within }
+
+pub same-bare : {a b : Command} {p : Parsed} → ParsesBare b p → a ≡ b → ParsesBare a p
+same-bare h e buffer = same-command (h buffer) e
 
 -- what is left of a line
 pub nothing-kept : (line : List ℕ) → length line ≡ 0 → [] ≡ withoutReturn line

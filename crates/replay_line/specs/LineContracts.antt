@@ -21,9 +21,9 @@ use Rattle.replay_line.specs.declared.fields.NextLent.{NextLent}
 use Rattle.replay_line.specs.declared.fields.NextLent.the-variants as lents
 use Rattle.replay_line.specs.declared.fields.ByteList.{ByteList}
 use Rattle.replay_line.specs.declared.Command as program
-use Rattle.replay_line.specs.declared.Command.the-variants.{Blank, NoCall, Take, Cancel, Tick, Read, Mouse, Dump, Write}
+use Rattle.replay_line.specs.declared.Command.the-variants.{Blank, NoCall, Take, Cancel, Tick, Restore, Read, Mouse, Dump, Write}
 use Rattle.replay_line.specs.declared.Writer as program-writer
-use Rattle.replay_line.specs.declared.Writer.the-variants.{Request, Switch, GetPaired, Led, List, Frame}
+use Rattle.replay_line.specs.declared.Writer.the-variants.{Request, Switch, GetPaired, Led, List, Store, Frame}
 use Rattle.replay_line.specs.declared.Parsed.{Parsed}
 use Rattle.replay_line.specs.LineWords.{space, closed, words}
 use Rattle.replay_line.specs.LineFields as fields
@@ -91,13 +91,9 @@ lentRead line (lents.Lent offset room next) =
     fields.got (record { offset = offset; room = room }) (words (drop next line))
 lentRead line lents.Nothing = fields.nothing
 
-abbrev pub bytesListed : ByteList → Option (lists.List ℕ)
-bytesListed b = cond (b .whole) (some (take (b .count) (b .bytes))) none
-
--- a list of bytes that stands for this, and lies within its array
-pub record Lists (rule : Option (lists.List ℕ)) (b : ByteList) : Type 0 where
-  pub so : bytesListed b ≡ rule
-  pub within : b .count ≤ length (b .bytes)
+-- bytes at the front of a buffer
+abbrev pub bytesListed : ByteList → (buffer : lists.List ℕ) → Option (lists.List ℕ)
+bytesListed r buffer = cond (r .whole) (some (take (r .count) buffer)) none
 
 abbrev pub writerOf : program-writer.Writer → rules.LineWriter
 writerOf (Request port byte2 byte3 ticks) = rules.request (port .0) (byte2 .0) byte3 ticks
@@ -105,6 +101,7 @@ writerOf (Switch bits timeout) = rules.switch bits timeout
 writerOf GetPaired = rules.getPaired
 writerOf (Led port leds) = rules.led (port .0) leds
 writerOf List = rules.list
+writerOf Store = rules.store
 writerOf (Frame port byte2 byte3) = rules.frame (port .0) (byte2 .0) byte3
 
 -- a command of the program with the bytes beside it
@@ -114,18 +111,23 @@ commandOf NoCall bytes = rules.noCall
 commandOf Take bytes = rules.take bytes
 commandOf (Cancel port byte2 byte3) bytes = rules.cancel (port .0) (byte2 .0) byte3
 commandOf Tick bytes = rules.tick
+commandOf Restore bytes = rules.restore bytes
 commandOf Read bytes = rules.read bytes
 commandOf Mouse bytes = rules.mouse bytes
 commandOf Dump bytes = rules.dump
 commandOf (Write writer offset room) bytes = rules.write (writerOf writer) offset room bytes
 
-abbrev pub parsedCommand : Parsed → rules.Command
-parsedCommand p = commandOf (p .command) (take (p .count) (p .bytes))
+abbrev pub parsedCommand : Parsed → (buffer : lists.List ℕ) → rules.Command
+parsedCommand p buffer = commandOf (p .command) (take (p .count) buffer)
 
--- an answer that means this command, and whose bytes lie within their array
-pub record Parses (command : rules.Command) (p : Parsed) : Type 0 where
-  pub so : parsedCommand p ≡ command
-  pub within : p .count ≤ length (p .bytes)
+-- an answer that means this command, with its bytes at the front of a buffer and within it
+pub record Parses (command : rules.Command) (p : Parsed) (buffer : lists.List ℕ) : Type 0 where
+  pub so : parsedCommand p buffer ≡ command
+  pub within : p .count ≤ fields.mostLent
+
+-- one without bytes: whatever the buffer holds
+abbrev pub ParsesBare : rules.Command → Parsed → Type 0
+ParsesBare command p = (buffer : lists.List ℕ) → Parses command p buffer
 
 -- the length of the lent buffer; 0 where none is lent
 abbrev pub lentRoom : rules.Command → ℕ
@@ -134,6 +136,7 @@ lentRoom rules.noCall = 0
 lentRoom (rules.take bytes) = 0
 lentRoom (rules.cancel port byte2 byte3) = 0
 lentRoom rules.tick = 0
+lentRoom (rules.restore bytes) = 0
 lentRoom (rules.read bytes) = 0
 lentRoom (rules.mouse payload) = 0
 lentRoom rules.dump = 0

@@ -1,13 +1,17 @@
 -- docs/SCRIPTS.md, "Lines": lines worked out, those at the edges of the script language too.
-use Prim.Native.Nat.{ℕ}
-use mathlib.Core.Path.{_≡_, refl}
+use Prim.Native.Nat.{ℕ, zero, suc}
+use mathlib.Core.Path.{_≡_, refl, _∙_, ap}
+use mathlib.Core.Bool.{cond}
 use mathlib.Core.List.{List, [], _∷_, _++_, map}
+use mathlib.Core.Option.{Option, some, none}
+use lib.Dec.{leb}
+use lib.ListN.{replicate, length-replicate}
 use Rattle.text.specs.Words.{ascii}
 use Rattle.replay_line.specs.LineWords.{words, wordsAfter, sameWord}
 use Rattle.replay_line.specs.LineValues.{hexByte, hexDigit, number, digitsAfter, allDigits, valueAfter}
-use Rattle.replay_line.specs.LineFields.{portAndBytes, lent, bytesOf}
-use Rattle.replay_line.specs.Commands.{Command, blank, noCall, take, request, cancel, tick, switch, getPaired, led, list, read, frame, mouse, dump, write}
-use Rattle.replay_line.specs.LineCalls.{carriageReturn, lineRule, textRule, withoutReturn, withBytes, requestCall, cancelCall, switchCall, ledCall, frameCall, otherRows, writerRows}
+use Rattle.replay_line.specs.LineFields.{portAndBytes, mostLent, lent, inFront, bytesOf, mostBytes, limited}
+use Rattle.replay_line.specs.Commands.{Command, blank, noCall, take, request, cancel, tick, switch, getPaired, led, list, store, restore, read, frame, mouse, dump, write}
+use Rattle.replay_line.specs.LineCalls.{carriageReturn, commandIn, given, lineRule, textRule, withoutReturn, withBytes, requestCall, cancelCall, switchCall, ledCall, frameCall, otherRows, writerRows}
 
 -- a line, and the call that it is
 record Example : Type 0 where
@@ -55,8 +59,42 @@ examples =
     ∷ reads (ascii "mouse 01 FF") (mouse (0x01 ∷ 0xFF ∷ []))
     ∷ reads (ascii "read") (read [])
     ∷ reads (ascii "dump") dump
+    ∷ reads (ascii "store 1 9") (write store 1 9 [])
+    ∷ reads (ascii "store 0 4097") noCall
+    ∷ reads (ascii "store 0 64 00") noCall
+    ∷ reads (ascii "restore 70 61 64 73 09 31 0A") (restore (0x70 ∷ 0x61 ∷ 0x64 ∷ 0x73 ∷ 0x09 ∷ 0x31 ∷ 0x0A ∷ []))
+    ∷ reads (ascii "restore") (restore [])
+    ∷ reads (ascii "restore 7") noCall
     ∷ []
 
 all-read : map (λ (e : Example). lineRule (e .line)) examples ≡ map (λ (e : Example). e .command) examples
 unfolding lineRule textRule withoutReturn words wordsAfter sameWord hexByte hexDigit number digitsAfter allDigits valueAfter portAndBytes lent bytesOf withBytes requestCall cancelCall switchCall ledCall frameCall otherRows writerRows
 all-read = refl
+
+-- a call with as many bytes as it may have, and with one more
+zero-bytes : (n : ℕ) → bytesOf (replicate n (ascii "00")) ≡ some (replicate n 0)
+unfolding bytesOf hexByte hexDigit
+zero-bytes zero = refl
+zero-bytes (suc n) = ap (inFront (some 0)) (zero-bytes n)
+
+zeros : (most n : ℕ) (command : List ℕ → Command) → withBytes most command (replicate n (ascii "00")) ≡ given (cond (leb n most) (some (replicate n 0)) none) command
+unfolding withBytes
+zeros most n command =
+    ap (λ (o : Option (List ℕ)). given (limited most o) command) (zero-bytes n)
+    ∙ ap (λ (k : ℕ). given (cond (leb k most) (some (replicate n 0)) none) command) (length-replicate n 0)
+
+longest-report : commandIn (ascii "take" ∷ replicate 256 (ascii "00")) ≡ take (replicate 256 0)
+unfolding sameWord
+longest-report = zeros mostBytes 256 take
+
+longer-report : commandIn (ascii "take" ∷ replicate 257 (ascii "00")) ≡ noCall
+unfolding sameWord
+longer-report = zeros mostBytes 257 take
+
+longest-store : commandIn (ascii "restore" ∷ replicate 4096 (ascii "00")) ≡ restore (replicate 4096 0)
+unfolding sameWord
+longest-store = zeros mostLent 4096 restore
+
+longer-store : commandIn (ascii "restore" ∷ replicate 4097 (ascii "00")) ≡ noCall
+unfolding sameWord
+longer-store = zeros mostLent 4097 restore

@@ -36,7 +36,7 @@ upTo limit (some n) = cond (leb n limit) (some n) none
 abbrev pub greatestPort : ℕ
 greatestPort = 255
 
--- no lent buffer is longer
+-- no lent buffer is longer, and no text of a store
 abbrev pub mostLent : ℕ
 mostLent = 4096
 
@@ -87,6 +87,7 @@ bytesOf (word ∷ following) = inFront (hexByte word) (bytesOf following)
 abbrev pub mostBytes : ℕ
 mostBytes = 256
 
-abbrev pub limited : Option (List ℕ) → Option (List ℕ)
-limited none = none
-limited (some bytes) = cond (leb (length bytes) mostBytes) (some bytes) none
+-- at most so many
+abbrev pub limited : (most : ℕ) → Option (List ℕ) → Option (List ℕ)
+limited most none = none
+limited most (some bytes) = cond (leb (length bytes) most) (some bytes) none

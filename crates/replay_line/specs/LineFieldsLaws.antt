@@ -13,7 +13,7 @@ use borrow.Author.Tests.{le-leb, lt-leb}
 use Rattle.replay_line.specs.LineWords.{words, noWord}
 use Rattle.replay_line.specs.LineContracts.{part, wordFrom, NextWord}
 use Rattle.replay_line.specs.LineValues.{hexByte, number}
-use Rattle.replay_line.specs.LineFields.{NextValue, nothing, got, valued, first, upTo, inFront, bytesOf, mostBytes, limited}
+use Rattle.replay_line.specs.LineFields.{NextValue, nothing, got, valued, first, upTo, inFront, bytesOf, limited}
 
 pub no-byte : hexByte [] ≡ none
 unfolding hexByte
@@ -82,49 +82,51 @@ one-byte (word ∷ rest) {b} {following} e = by (hexByte word) e
         let left : rest ≡ following = cc in
         ap (λ (m : ℕ). inFront (some m) (bytesOf rest)) same ∙ ap (λ (l : List (List ℕ)). inFront (some b) (bytesOf l)) left
 
-whole : (read : List ℕ) → length read ≤ mostBytes → some read ≡ limited (some (read ++ []))
-whole read h = sym (ap (λ (l : List ℕ). limited (some l)) (append-nil read) ∙ ap (λ (t : Bool). cond t (some read) none) (le-leb (length read) mostBytes h))
+-- at most so many
+module _ (most : ℕ) where
+  whole : (read : List ℕ) → length read ≤ most → some read ≡ limited most (some (read ++ []))
+  whole read h = sym (ap (λ (l : List ℕ). limited most (some l)) (append-nil read) ∙ ap (λ (t : Bool). cond t (some read) none) (le-leb (length read) most h))
 
--- a word that is no byte
-stopped-by : (read : List ℕ) (given : List (List ℕ)) → length read ≤ mostBytes → first hexByte given ≡ nothing → cond (noWord given) (some read) none ≡ limited (after read (bytesOf given))
-unfolding bytesOf
-stopped-by read [] h e = whole read h
-stopped-by read (word ∷ rest) h e = by (hexByte word) e
-  where
-    by : (o : Option ℕ) → valued o rest ≡ nothing → none ≡ limited (after read (inFront o (bytesOf rest)))
-    by none e = refl
-    by (some n) e = absurd (let z : _≡_ {A = ℕ} 0 1 = cc in omega arith)
+  -- a word that is no byte
+  stopped-by : (read : List ℕ) (given : List (List ℕ)) → length read ≤ most → first hexByte given ≡ nothing → cond (noWord given) (some read) none ≡ limited most (after read (bytesOf given))
+  unfolding bytesOf
+  stopped-by read [] h e = whole read h
+  stopped-by read (word ∷ rest) h e = by (hexByte word) e
+    where
+      by : (o : Option ℕ) → valued o rest ≡ nothing → none ≡ limited most (after read (inFront o (bytesOf rest)))
+      by none e = refl
+      by (some n) e = absurd (let z : _≡_ {A = ℕ} 0 1 = cc in omega arith)
 
--- a word after mostBytes bytes
-full-by : (read : List ℕ) (given : List (List ℕ)) → length read ≡ mostBytes → cond (noWord given) (some read) none ≡ limited (after read (bytesOf given))
-unfolding bytesOf
-full-by read [] h = whole read (omega arith)
-full-by read (word ∷ rest) h = by (hexByte word) (bytesOf rest)
-  where
-    by : (o : Option ℕ) (left : Option (List ℕ)) → none ≡ limited (after read (inFront o left))
-    by none left = refl
-    by (some n) none = refl
-    by (some n) (some bytes) =
-        let more : mostBytes < length (read ++ (n ∷ bytes)) = omega (arith, length-append read (n ∷ bytes)) in
-        sym (ap (λ (t : Bool). cond t (some (read ++ (n ∷ bytes))) none) (lt-leb _ mostBytes more))
+  -- a word after the last byte
+  full-by : (read : List ℕ) (given : List (List ℕ)) → length read ≡ most → cond (noWord given) (some read) none ≡ limited most (after read (bytesOf given))
+  unfolding bytesOf
+  full-by read [] h = whole read (omega (arith, h))
+  full-by read (word ∷ rest) h = by (hexByte word) (bytesOf rest)
+    where
+      by : (o : Option ℕ) (left : Option (List ℕ)) → none ≡ limited most (after read (inFront o left))
+      by none left = refl
+      by (some n) none = refl
+      by (some n) (some bytes) =
+          let more : most < length (read ++ (n ∷ bytes)) = omega (arith, h, length-append read (n ∷ bytes)) in
+          sym (ap (λ (t : Bool). cond t (some (read ++ (n ∷ bytes))) none) (lt-leb _ most more))
 
 -- the loop's state: `count` bytes are read, and the words from an offset on are left
-pub record Collecting (line : List ℕ) (at : ℕ) (bytes : List ℕ) (count next : ℕ) : Type 0 where
-  pub sized : length bytes ≡ mostBytes
-  pub small : count ≤ mostBytes
+pub record Collecting (line : List ℕ) (at most : ℕ) (before bytes : List ℕ) (count next : ℕ) : Type 0 where
+  pub same : length bytes ≡ length before
+  pub small : count ≤ most
   pub so : bytesOf (words (drop at line)) ≡ after (take count bytes) (bytesOf (words (drop next line)))
 
-pub collect-begun : (line : List ℕ) (at : ℕ) (bytes : List ℕ) → length bytes ≡ mostBytes → Collecting line at bytes 0 at
-collect-begun line at bytes h =
-    record { sized = h; small = omega arith; so = after-nothing (bytesOf (words (drop at line))) }
+pub collect-begun : (line : List ℕ) (at most : ℕ) (bytes : List ℕ) → Collecting line at most bytes bytes 0 at
+collect-begun line at most bytes =
+    record { same = refl; small = omega arith; so = after-nothing (bytesOf (words (drop at line))) }
 
-module _ {line : List ℕ} {at : ℕ} {bytes : List ℕ} {count next : ℕ} (s : Collecting line at bytes count next) where
-  pub collect-more : {b past : ℕ} → count < mostBytes → first hexByte (words (drop next line)) ≡ got b (words (drop past line)) → Collecting line at (set bytes count b) (count + 1) past
+module _ {line : List ℕ} {at most : ℕ} {before bytes : List ℕ} {count next : ℕ} (s : Collecting line at most before bytes count next) (room : most ≤ length before) where
+  pub collect-more : {b past : ℕ} → count < most → first hexByte (words (drop next line)) ≡ got b (words (drop past line)) → Collecting line at most before (set bytes count b) (count + 1) past
   collect-more {b} {past} h e =
-      let k : count < length bytes = omega (arith, s .sized) in
+      let k : count < length bytes = omega (arith, h, room, s .same) in
       record {
-        sized = length-set bytes count b ∙ s .sized;
-        small = omega arith;
+        same = length-set bytes count b ∙ s .same;
+        small = omega (arith, h);
         so =
             s .so
             ∙ ap (after (take count bytes)) (one-byte (words (drop next line)) e)
@@ -133,16 +135,16 @@ module _ {line : List ℕ} {at : ℕ} {bytes : List ℕ} {count next : ℕ} (s :
       }
 
   read-so-far : length (take count bytes) ≡ count
-  read-so-far = length-take-le count bytes (omega (arith, s .sized, s .small))
+  read-so-far = length-take-le count bytes (omega (arith, room, s .same, s .small))
 
-  pub collect-stopped : {t : Bool} → first hexByte (words (drop next line)) ≡ nothing → t ≡ noWord (words (drop next line)) → cond t (some (take count bytes)) none ≡ limited (bytesOf (words (drop at line)))
+  pub collect-stopped : {t : Bool} → first hexByte (words (drop next line)) ≡ nothing → t ≡ noWord (words (drop next line)) → cond t (some (take count bytes)) none ≡ limited most (bytesOf (words (drop at line)))
   collect-stopped e last =
       ap (λ (t : Bool). cond t (some (take count bytes)) none) last
-      ∙ stopped-by (take count bytes) (words (drop next line)) (omega (arith, read-so-far, s .small)) e
-      ∙ ap limited (sym (s .so))
+      ∙ stopped-by most (take count bytes) (words (drop next line)) (omega (arith, read-so-far, s .small)) e
+      ∙ ap (limited most) (sym (s .so))
 
-  pub collect-full : {t : Bool} → mostBytes ≤ count → t ≡ noWord (words (drop next line)) → cond t (some (take count bytes)) none ≡ limited (bytesOf (words (drop at line)))
+  pub collect-full : {t : Bool} → most ≤ count → t ≡ noWord (words (drop next line)) → cond t (some (take count bytes)) none ≡ limited most (bytesOf (words (drop at line)))
   collect-full h last =
       ap (λ (t : Bool). cond t (some (take count bytes)) none) last
-      ∙ full-by (take count bytes) (words (drop next line)) (omega (arith, read-so-far, s .small))
-      ∙ ap limited (sym (s .so))
+      ∙ full-by most (take count bytes) (words (drop next line)) (omega (arith, h, read-so-far, s .small))
+      ∙ ap (limited most) (sym (s .so))

@@ -1,10 +1,11 @@
 // The words of a call one after another, each read as what it has to stand for.
 ghost use mathlib.Core.Path.{_≡_};
-ghost use lib.ListN.{drop};
+ghost use Prim.Native.Nat.{_≤_};
+ghost use lib.ListN.{length, drop};
 ghost use Rattle.replay_line.specs.LineWords.{words};
 ghost use Rattle.replay_line.specs.LineValues.{hexByte, number};
 ghost use Rattle.replay_line.specs.LineFields.{first, portNumber, portAndBytes, lent, bytesOf, limited};
-ghost use Rattle.replay_line.specs.LineContracts.{byteRead, numberRead, portAndBytesRead, lentRead, Lists};
+ghost use Rattle.replay_line.specs.LineContracts.{byteRead, numberRead, portAndBytesRead, lentRead, bytesListed};
 use crate::values;
 use crate::values::Decimal;
 use crate::values::Hex;
@@ -42,9 +43,8 @@ pub enum NextLent {
     Nothing,
 }
 
-// The first `count` bytes; whole where every word was one of them.
+// The number of bytes read; whole where every word was one of them.
 pub struct ByteList {
-    pub bytes: [u8; crate::MOST_BYTES],
     pub count: usize,
     pub whole: bool,
 }
@@ -132,17 +132,17 @@ pub fn next_lent(line: &[u8], at: usize) -> NextLent
     NextLent::Nothing
 }
 
-// HH.. up to the end of the line.
-pub fn bytes_left(line: &[u8], at: usize) -> ByteList
-    ensures bytes { λ r. ⌜ Lists (limited (bytesOf (words (drop at (now (line .entry)))))) r ⌝ }
+// HH.. up to the end of the line, at most so many.
+pub fn bytes_left(line: &[u8], at: usize, most: usize, bytes: &mut [u8]) -> ByteList
+    requires { ⌜ most ≤ length (now bytes) ⌝ }
+    ensures bytes { λ r. ⌜ bytesListed r (now (bytes .exit)) ≡ limited most (bytesOf (words (drop at (now (line .entry))))) ⌝ }
+    ensures within { λ r. ⌜ r .count ≤ most ⌝ }
 {
-    let mut bytes = [0u8; crate::MOST_BYTES];
     let mut count = 0;
     let mut next = at;
-    while count < crate::MOST_BYTES {
+    while count < most {
         let NextByte::Byte { value, next: past } = next_byte(line, next) else {
             return ByteList {
-                bytes,
                 count,
                 whole: words::is_end(line, next),
             };
@@ -152,7 +152,6 @@ pub fn bytes_left(line: &[u8], at: usize) -> ByteList
         next = past;
     }
     ByteList {
-        bytes,
         count,
         whole: words::is_end(line, next),
     }

@@ -4,8 +4,9 @@ ghost use mathlib.Core.List.{[]};
 ghost use Prim.Native.Nat.{_≤_};
 ghost use lib.ListN.{length, take, drop};
 ghost use Rattle.replay_line.specs.LineWords.{words};
+ghost use Rattle.replay_line.specs.LineFields.{mostLent};
 ghost use Rattle.replay_line.specs.LineCalls.{withNoMore, withBytes, lentAlone, lentBytes, requestCall, cancelCall, switchCall, ledCall, frameCall, commandNamed, table, otherRows, writerRows, commandIn, withoutReturn, lineRule};
-ghost use Rattle.replay_line.specs.LineContracts.{writerOf, commandOf, parsedCommand, Parses};
+ghost use Rattle.replay_line.specs.LineContracts.{writerOf, commandOf, parsedCommand, Parses, ParsesBare};
 use fields::NextByte;
 use fields::NextLent;
 use fields::NextNumber;
@@ -22,7 +23,7 @@ const RETURN: u8 = 13;
 // The longest report, payload or parameter list.
 pub const MOST_BYTES: usize = 256;
 
-// The longest lent buffer.
+// The longest lent buffer, and the longest text of a store.
 pub const MOST_LENT: usize = 4096;
 
 // The calls that write into a lent buffer.
@@ -43,6 +44,7 @@ pub enum Writer {
         leds: u8,
     },
     List,
+    Store,
     Frame {
         port: Device,
         byte2: FeatureIndex,
@@ -50,7 +52,7 @@ pub enum Writer {
     },
 }
 
-// What a line asks for. A writer is lent a buffer of `room` bytes; a report, a payload or parameters are beside the command.
+// What a line asks for. A writer is lent a buffer of `room` bytes; a report, a payload, parameters or the text of a store are beside the command.
 pub enum Command {
     Blank,
     NoCall,
@@ -61,6 +63,7 @@ pub enum Command {
         byte3: u8,
     },
     Tick,
+    Restore,
     Read,
     Mouse,
     Dump,
@@ -71,28 +74,22 @@ pub enum Command {
     },
 }
 
-// A command, and the first `count` bytes: its report, payload or parameters.
+// A command, and how many bytes its report, payload, parameters or text has.
 pub struct Parsed {
     pub command: Command,
-    pub bytes: [u8; MOST_BYTES],
     pub count: usize,
 }
 
 // A command without bytes.
 fn bare(command: Command) -> Parsed
-    ensures { λ r. ⌜ Parses (commandOf command []) r ⌝ }
+    ensures { λ r. ⌜ ParsesBare (commandOf command []) r ⌝ }
 {
-    let bytes = [0u8; MOST_BYTES];
-    Parsed {
-        command,
-        bytes,
-        count: 0,
-    }
+    Parsed { command, count: 0 }
 }
 
 // A command after which no word is left.
 fn with_no_more(command: Command, line: &[u8], at: usize) -> Parsed
-    ensures { λ r. ⌜ Parses (withNoMore (commandOf command []) (words (drop at (now (line .entry))))) r ⌝ }
+    ensures { λ r. ⌜ ParsesBare (withNoMore (commandOf command []) (words (drop at (now (line .entry))))) r ⌝ }
 {
     if words::is_end(line, at) {
         return bare(command);
@@ -100,16 +97,21 @@ fn with_no_more(command: Command, line: &[u8], at: usize) -> Parsed
     bare(Command::NoCall)
 }
 
-// A command after which all words are bytes.
-fn with_bytes(command: Command, line: &[u8], at: usize) -> Parsed
-    ensures { λ r. ⌜ Parses (withBytes (commandOf command) (words (drop at (now (line .entry))))) r ⌝ }
+// A command after which all words are bytes, at most so many.
+fn with_bytes(
+    command: Command,
+    line: &[u8],
+    at: usize,
+    most: usize,
+    bytes: &mut [u8; MOST_LENT],
+) -> Parsed
+    requires { ⌜ most ≤ mostLent ⌝ }
+    ensures { λ r. ⌜ Parses (withBytes most (commandOf command) (words (drop at (now (line .entry))))) r (now (bytes .exit)) ⌝ }
 {
-    let list = fields::bytes_left(line, at);
+    let list = fields::bytes_left(line, at, most, bytes);
     if list.whole {
-        let bytes = list.bytes;
         return Parsed {
             command,
-            bytes,
             count: list.count,
         };
     }
@@ -118,7 +120,7 @@ fn with_bytes(command: Command, line: &[u8], at: usize) -> Parsed
 
 // A writer, then the offset and the length of its lent buffer, and no word more.
 fn lent_alone(writer: Writer, line: &[u8], at: usize) -> Parsed
-    ensures { λ r. ⌜ Parses (lentAlone (writerOf writer) (words (drop at (now (line .entry))))) r ⌝ }
+    ensures { λ r. ⌜ ParsesBare (lentAlone (writerOf writer) (words (drop at (now (line .entry))))) r ⌝ }
 {
     let NextLent::Lent { offset, room, next } = fields::next_lent(line, at) else {
         return bare(Command::NoCall);
@@ -132,8 +134,8 @@ fn lent_alone(writer: Writer, line: &[u8], at: usize) -> Parsed
 }
 
 // A writer, then these two, and then its parameters.
-fn lent_bytes(writer: Writer, line: &[u8], at: usize) -> Parsed
-    ensures { λ r. ⌜ Parses (lentBytes (writerOf writer) (words (drop at (now (line .entry))))) r ⌝ }
+fn lent_bytes(writer: Writer, line: &[u8], at: usize, bytes: &mut [u8; MOST_LENT]) -> Parsed
+    ensures { λ r. ⌜ Parses (lentBytes (writerOf writer) (words (drop at (now (line .entry))))) r (now (bytes .exit)) ⌝ }
 {
     let NextLent::Lent { offset, room, next } = fields::next_lent(line, at) else {
         return bare(Command::NoCall);
@@ -143,11 +145,11 @@ fn lent_bytes(writer: Writer, line: &[u8], at: usize) -> Parsed
         offset,
         room,
     };
-    with_bytes(command, line, next)
+    with_bytes(command, line, next, MOST_BYTES, bytes)
 }
 
-fn request_call(line: &[u8], at: usize) -> Parsed
-    ensures { λ r. ⌜ Parses (requestCall (words (drop at (now (line .entry))))) r ⌝ }
+fn request_call(line: &[u8], at: usize, bytes: &mut [u8; MOST_LENT]) -> Parsed
+    ensures { λ r. ⌜ Parses (requestCall (words (drop at (now (line .entry))))) r (now (bytes .exit)) ⌝ }
 {
     let NextPortAndBytes::PortAndBytes {
         port,
@@ -167,11 +169,11 @@ fn request_call(line: &[u8], at: usize) -> Parsed
         byte3,
         ticks,
     };
-    lent_bytes(writer, line, next)
+    lent_bytes(writer, line, next, bytes)
 }
 
 fn cancel_call(line: &[u8], at: usize) -> Parsed
-    ensures { λ r. ⌜ Parses (cancelCall (words (drop at (now (line .entry))))) r ⌝ }
+    ensures { λ r. ⌜ ParsesBare (cancelCall (words (drop at (now (line .entry))))) r ⌝ }
 {
     let NextPortAndBytes::PortAndBytes {
         port,
@@ -186,7 +188,7 @@ fn cancel_call(line: &[u8], at: usize) -> Parsed
 }
 
 fn switch_call(line: &[u8], at: usize) -> Parsed
-    ensures { λ r. ⌜ Parses (switchCall (words (drop at (now (line .entry))))) r ⌝ }
+    ensures { λ r. ⌜ ParsesBare (switchCall (words (drop at (now (line .entry))))) r ⌝ }
 {
     let NextByte::Byte { value: bits, next } = fields::next_byte(line, at) else {
         return bare(Command::NoCall);
@@ -202,7 +204,7 @@ fn switch_call(line: &[u8], at: usize) -> Parsed
 }
 
 fn led_call(line: &[u8], at: usize) -> Parsed
-    ensures { λ r. ⌜ Parses (ledCall (words (drop at (now (line .entry))))) r ⌝ }
+    ensures { λ r. ⌜ ParsesBare (ledCall (words (drop at (now (line .entry))))) r ⌝ }
 {
     let NextByte::Byte { value: port, next } = fields::next_port(line, at) else {
         return bare(Command::NoCall);
@@ -217,8 +219,8 @@ fn led_call(line: &[u8], at: usize) -> Parsed
     lent_alone(writer, line, next)
 }
 
-fn frame_call(line: &[u8], at: usize) -> Parsed
-    ensures { λ r. ⌜ Parses (frameCall (words (drop at (now (line .entry))))) r ⌝ }
+fn frame_call(line: &[u8], at: usize, bytes: &mut [u8; MOST_LENT]) -> Parsed
+    ensures { λ r. ⌜ Parses (frameCall (words (drop at (now (line .entry))))) r (now (bytes .exit)) ⌝ }
 {
     let NextPortAndBytes::PortAndBytes {
         port,
@@ -229,21 +231,21 @@ fn frame_call(line: &[u8], at: usize) -> Parsed
     else {
         return bare(Command::NoCall);
     };
-    lent_bytes(Writer::Frame { port, byte2, byte3 }, line, next)
+    lent_bytes(Writer::Frame { port, byte2, byte3 }, line, next, bytes)
 }
 
 // The calls that need no station, and the dump.
-fn other_call(name: &[u8], line: &[u8], at: usize) -> Parsed
-    ensures { λ r. ⌜ Parses (commandNamed otherRows (now (name .entry)) (words (drop at (now (line .entry))))) r ⌝ }
+fn other_call(name: &[u8], line: &[u8], at: usize, bytes: &mut [u8; MOST_LENT]) -> Parsed
+    ensures { λ r. ⌜ Parses (commandNamed otherRows (now (name .entry)) (words (drop at (now (line .entry))))) r (now (bytes .exit)) ⌝ }
 {
     if words::is_word(name, b"read") {
-        return with_bytes(Command::Read, line, at);
+        return with_bytes(Command::Read, line, at, MOST_BYTES, bytes);
     }
     if words::is_word(name, b"frame") {
-        return frame_call(line, at);
+        return frame_call(line, at, bytes);
     }
     if words::is_word(name, b"mouse") {
-        return with_bytes(Command::Mouse, line, at);
+        return with_bytes(Command::Mouse, line, at, MOST_BYTES, bytes);
     }
     if words::is_word(name, b"dump") {
         return with_no_more(Command::Dump, line, at);
@@ -252,8 +254,8 @@ fn other_call(name: &[u8], line: &[u8], at: usize) -> Parsed
 }
 
 // The calls that write into a lent buffer, except a request; and those after them in the table.
-fn writer_call(name: &[u8], line: &[u8], at: usize) -> Parsed
-    ensures { λ r. ⌜ Parses (commandNamed writerRows (now (name .entry)) (words (drop at (now (line .entry))))) r ⌝ }
+fn writer_call(name: &[u8], line: &[u8], at: usize, bytes: &mut [u8; MOST_LENT]) -> Parsed
+    ensures { λ r. ⌜ Parses (commandNamed writerRows (now (name .entry)) (words (drop at (now (line .entry))))) r (now (bytes .exit)) ⌝ }
 {
     if words::is_word(name, b"switch") {
         return switch_call(line, at);
@@ -267,18 +269,21 @@ fn writer_call(name: &[u8], line: &[u8], at: usize) -> Parsed
     if words::is_word(name, b"list") {
         return lent_alone(Writer::List, line, at);
     }
-    other_call(name, line, at)
+    if words::is_word(name, b"store") {
+        return lent_alone(Writer::Store, line, at);
+    }
+    other_call(name, line, at, bytes)
 }
 
 // The call of this name, whose other words start at `at`.
-fn named_call(name: &[u8], line: &[u8], at: usize) -> Parsed
-    ensures { λ r. ⌜ Parses (commandNamed table (now (name .entry)) (words (drop at (now (line .entry))))) r ⌝ }
+fn named_call(name: &[u8], line: &[u8], at: usize, bytes: &mut [u8; MOST_LENT]) -> Parsed
+    ensures { λ r. ⌜ Parses (commandNamed table (now (name .entry)) (words (drop at (now (line .entry))))) r (now (bytes .exit)) ⌝ }
 {
     if words::is_word(name, b"take") {
-        return with_bytes(Command::Take, line, at);
+        return with_bytes(Command::Take, line, at, MOST_BYTES, bytes);
     }
     if words::is_word(name, b"request") {
-        return request_call(line, at);
+        return request_call(line, at, bytes);
     }
     if words::is_word(name, b"cancel") {
         return cancel_call(line, at);
@@ -286,16 +291,19 @@ fn named_call(name: &[u8], line: &[u8], at: usize) -> Parsed
     if words::is_word(name, b"tick") {
         return with_no_more(Command::Tick, line, at);
     }
-    writer_call(name, line, at)
+    if words::is_word(name, b"restore") {
+        return with_bytes(Command::Restore, line, at, MOST_LENT, bytes);
+    }
+    writer_call(name, line, at, bytes)
 }
 
-fn parse_call(text: &[u8]) -> Parsed
-    ensures { λ r. ⌜ Parses (commandIn (words (now (text .entry)))) r ⌝ }
+fn parse_call(text: &[u8], bytes: &mut [u8; MOST_LENT]) -> Parsed
+    ensures { λ r. ⌜ Parses (commandIn (words (now (text .entry)))) r (now (bytes .exit)) ⌝ }
 {
     let word = words::next_word(text, 0);
     let start = word.start;
     let end = word.end;
-    named_call(&text[start..end], text, end)
+    named_call(&text[start..end], text, end, bytes)
 }
 
 // The end of a line without one carriage return.
@@ -313,10 +321,10 @@ fn text_end(line: &[u8]) -> usize
     end
 }
 
-// Reads a line, which comes without its newline.
-pub fn parse_line(line: &[u8]) -> Parsed
-    ensures call { λ r. ⌜ parsedCommand r ≡ lineRule (now (line .entry)) ⌝ }
-    ensures within { λ r. ⌜ r .count ≤ length (r .bytes) ⌝ }
+// Reads a line, which comes without its newline. The bytes of its call are put at the front of those that are lent; what is behind them is not to be relied on.
+pub fn parse_line(line: &[u8], bytes: &mut [u8; MOST_LENT]) -> Parsed
+    ensures call { λ r. ⌜ parsedCommand r (now (bytes .exit)) ≡ lineRule (now (line .entry)) ⌝ }
+    ensures within { λ r. ⌜ r .count ≤ mostLent ⌝ }
 {
     let end = text_end(line);
     let text = &line[..end];
@@ -326,5 +334,5 @@ pub fn parse_line(line: &[u8]) -> Parsed
     if text[0] == b'#' {
         return bare(Command::Blank);
     }
-    parse_call(text)
+    parse_call(text, bytes)
 }

@@ -6,6 +6,7 @@ use Rattle.report.specs.Reading as reading
 use Rattle.frame.specs.Writing as writing
 use Rattle.mouse.specs.Movement as movement
 use Rattle.port.specs.Waiting as waiting
+use Rattle.restore.specs.Restoring as restoring
 use Rattle.text.specs.Words.{ascii, hex, decimal}
 use Rattle.text.specs.Texts.{each, digits8, digits16, numberMost}
 use Rattle.replay_fields.specs.AnswerFields.{field, line, lineEnd, byteText, signedText, spaced, spacedMost, refusedWord, refusedText}
@@ -40,6 +41,13 @@ cancelledText waiting.done = line (ascii "cancelled" ∷ [])
 -- the number of requests that a tick ended on each port
 unfoldable pub endedText : List ℕ → List ℕ
 endedText counts = line (ascii "ended" ∷ each (spaced decimal) counts ∷ [])
+
+-- what reading a store answered; the line of the store that broke its rules comes after the number of that refusal
+unfoldable pub restoredText : restoring.RestoreAnswer → List ℕ
+restoredText restoring.restored = line (ascii "restored" ∷ [])
+restoredText (restoring.refused number) = refusedText number
+restoredText (restoring.refusedAt number broken) =
+    line (refusedWord ∷ decimal number ∷ field "line" (decimal broken) ∷ [])
 
 unfoldable pub reportText : reading.Report → List ℕ
 reportText r =

@@ -10,10 +10,12 @@ ghost use Rattle.text.specs.Putting.{filled, Puts, wholeRule};
 ghost use Rattle.text.specs.Texts.{each, byteMost};
 ghost use Rattle.station.specs.Stations.{portCount};
 ghost use Rattle.replay_fields.specs.AnswerFields.{spaced, spacedMost, answerMost};
-ghost use Rattle.replay_render.specs.AnswerLines.{lentText, lentMost, outcomeText, outcomeMost, writtenText, writtenMost, cancelledText, endedText, reportText, readingText, movedText, noCallText};
+ghost use Rattle.replay_render.specs.AnswerLines.{lentText, lentMost, outcomeText, outcomeMost, writtenText, writtenMost, cancelledText, endedText, restoredText, reportText, readingText, movedText, noCallText};
 ghost use Rattle.port.specs.PortContracts.{cancelOf};
-ghost use Rattle.report.specs.ReportContracts.{djOf, readingOf};
+ghost use Rattle.report.specs.ReportContracts.{numberOf, djOf, readingOf};
 ghost use Rattle.frame.specs.FrameContracts.{writtenOf};
+ghost use Rattle.restore.specs.Restoring.{refusedAt};
+ghost use Rattle.restore.specs.RestoreContracts.{restoredOf};
 use frame::Written;
 use mouse::Motion;
 use mouse::Moved;
@@ -21,6 +23,8 @@ use port::waiting::Cancelled;
 use report::Device;
 use report::DjReport;
 use report::Reading;
+use report::Refusal;
+use restore::Restored;
 
 // Room for the longest line, except a writer's.
 const ANSWER: usize = replay_fields::ANSWER;
@@ -132,6 +136,35 @@ pub fn put_ended(buffer: &mut [u8], at: usize, counts: [u8; port::PORTS]) -> usi
 {
     if frame::fits(ANSWER, at, buffer.len()) {
         return put_ended_line(buffer, at, counts);
+    }
+    at
+}
+
+// A refusal, and the number of the line that it is for.
+fn put_refused_at(buffer: &mut [u8], at: usize, refusal: Refusal, line: u8) -> usize
+    ensures { λ r. ⌜ Puts answerMost (restoredText (refusedAt (numberOf refusal) line)) at (now (buffer .entry)) r (now (buffer .exit)) ⌝ }
+{
+    let at = replay_fields::put_number(buffer, at, b"refused ", refusal.number());
+    let at = replay_fields::put_number(buffer, at, b" line=", line);
+    text::put_byte(buffer, at, b'\n')
+}
+
+fn put_restored_line(buffer: &mut [u8], at: usize, answer: Restored) -> usize
+    ensures { λ r. ⌜ Puts answerMost (restoredText (restoredOf answer)) at (now (buffer .entry)) r (now (buffer .exit)) ⌝ }
+{
+    match answer {
+        Restored::Done => text::put_word(buffer, at, b"restored\n"),
+        Restored::Refused(refusal) => replay_fields::put_refused(buffer, at, refusal),
+        Restored::RefusedAt(refusal, line) => put_refused_at(buffer, at, refusal, line),
+    }
+}
+
+// What reading a store answered.
+pub fn put_restored(buffer: &mut [u8], at: usize, answer: Restored) -> usize
+    ensures put { λ r. ⌜ filled r (now (buffer .exit)) ≡ wholeRule answerMost (restoredText (restoredOf answer)) at (now (buffer .entry)) ⌝ }
+{
+    if frame::fits(ANSWER, at, buffer.len()) {
+        return put_restored_line(buffer, at, answer);
     }
     at
 }

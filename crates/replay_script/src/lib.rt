@@ -20,15 +20,15 @@ struct Run {
     filled: usize,
 }
 
-// Answers the next line behind what the output buffer holds.
-fn answer(run: Run, line: &[u8], output: &mut [u8]) -> Run
+// Answers the next line behind what the output buffer holds. `bytes` are for those of its call.
+fn answer(run: Run, line: &[u8], bytes: &mut [u8; replay_line::MOST_LENT], output: &mut [u8]) -> Run
     requires { ⌜ fitsAt answerRoom (run .filled) (length (now output)) ≡ true ⌝ }
     ensures { λ r. ⌜ Adds run (now (line .entry)) (now (output .entry)) r (now (output .exit)) ⌝ }
 {
     let station = run.station;
     let filled = run.filled;
     let number = std::num::wrapping_add_usize(run.number, 1);
-    let answered = replay_desk::answer_line(station, number, line, output, filled);
+    let answered = replay_desk::answer_line(station, number, line, bytes, output, filled);
     let answer = answered.answer;
     let after = answered.station;
     let end = match answer {
@@ -63,6 +63,7 @@ pub fn answer_lines(station: Station, number: usize, text: &[u8], output: &mut [
         number,
         filled: 0,
     };
+    let mut bytes = [0u8; replay_line::MOST_LENT];
     let mut at = 0;
     let mut end = scan::find(text, at, text.len(), NEWLINE);
     while end < text.len() {
@@ -76,7 +77,7 @@ pub fn answer_lines(station: Station, number: usize, text: &[u8], output: &mut [
                 full: true,
             };
         }
-        run = answer(run, &text[at..end], output);
+        run = answer(run, &text[at..end], &mut bytes, output);
         at = end + 1;
         end = scan::find(text, at, text.len(), NEWLINE);
     }

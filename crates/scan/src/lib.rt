@@ -47,7 +47,7 @@ struct Digits {
 }
 
 // Nothing is found.
-fn nothing(text: &[u8]) -> Field
+fn not_found(text: &[u8]) -> Field
     ensures { λ r. ⌜ Nothing (now (text .entry)) (r .found) (r .value) (r .next) ⌝ }
 {
     Field {
@@ -62,10 +62,10 @@ fn is_at(text: &[u8], at: usize, byte: u8) -> bool
     ensures front { λ r. ⌜ r ≡ frontIs byte (drop at (now (text .entry))) ⌝ }
     ensures within { λ r. ⌜ (r ≡ true → at < length (now (text .entry))) ⌝ }
 {
-    if at < text.len() {
-        return text[at] == byte;
+    if at >= text.len() {
+        return false;
     }
-    false
+    text[at] == byte
 }
 
 // A value that was read, if this byte comes next.
@@ -80,7 +80,7 @@ fn stop_at(text: &[u8], at: usize, stop: u8, value: u32) -> Field
             next: at + 1,
         };
     }
-    nothing(text)
+    not_found(text)
 }
 
 // The bytes of a word. The value is 0.
@@ -91,7 +91,7 @@ pub fn scan_word(text: &[u8], at: usize, word: &[u8]) -> Field
     let mut i = 0;
     while i < word.len() {
         if !is_at(text, next, word[i]) {
-            return nothing(text);
+            return not_found(text);
         }
         next += 1;
         i += 1;
@@ -139,14 +139,14 @@ pub fn scan_number(text: &[u8], at: usize, stop: u8) -> Field
     ensures found { λ r. ⌜ Scans (cappedScan stop) (now (text .entry)) at (r .found) (r .value) (r .next) ⌝ }
 {
     if at >= text.len() {
-        return nothing(text);
+        return not_found(text);
     }
     let c = text[at];
     if c == b'0' {
         return stop_at(text, at + 1, stop, 0);
     }
     if !report::within(b'0', c, b'9') {
-        return nothing(text);
+        return not_found(text);
     }
     let digits = digits_after(text, at + 1, (c - b'0') as u16);
     stop_at(text, digits.next, stop, digits.value as u32)
@@ -159,12 +159,12 @@ pub fn scan_decimal(text: &[u8], at: usize, most: u8, stop: u8) -> Field
 {
     let number = scan_number(text, at, stop);
     if !number.found {
-        return nothing(text);
+        return not_found(text);
     }
     if number.value <= most as u32 {
         return number;
     }
-    nothing(text)
+    not_found(text)
 }
 
 // The value of a hexadecimal digit in capitals.
@@ -185,10 +185,10 @@ fn digit_at(text: &[u8], at: usize) -> u8
     ensures front { λ r. ⌜ r ≡ frontDigit (drop at (now (text .entry))) ⌝ }
     ensures within { λ r. ⌜ (r < 16 → at < length (now (text .entry))) ⌝ }
 {
-    if at < text.len() {
-        return capital_digit(text[at]);
+    if at >= text.len() {
+        return NO_DIGIT;
     }
-    NO_DIGIT
+    capital_digit(text[at])
 }
 
 // Hexadecimal in capitals at a fixed width, and the byte after it.
@@ -203,7 +203,7 @@ fn scan_hex(text: &[u8], at: usize, width: u8, stop: u8) -> Field
     while i < width {
         let digit = digit_at(text, next);
         if digit >= NO_DIGIT {
-            return nothing(text);
+            return not_found(text);
         }
         value = value * 16 + digit as u32;
         next += 1;

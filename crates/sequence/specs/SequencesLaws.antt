@@ -1,14 +1,27 @@
 -- Document 02, Ask 3: every history from a start is made of sequences, each on a start of its own.
-use mathlib.Core.Path.{_≡_, refl, sym, subst}
+use Prim.Native.Nat.{ℕ}
+use mathlib.Core.Path.{_≡_, refl, sym, ap, subst}
 use mathlib.Core.Bool.{Bool, true, false}
 use mathlib.Core.List.{List, [], _∷_, _++_, map}
+use Rattle.port.specs.declared.Port.{Port}
+use Rattle.restore.specs.Restoring.{storeOf, readStore}
 use Rattle.station.specs.declared.Station.{Station}
 use Rattle.sequence.specs.Starts.{Start}
 use Rattle.sequence.specs.StartsLaws.{begun-start}
-use Rattle.sequence.specs.Steps.{Outcome, begins}
+use Rattle.sequence.specs.Steps.{Call, restore, Outcome, isStore, begins}
 use Rattle.sequence.specs.Histories.{Made, callOf, History}
 use Rattle.sequence.specs.HistoriesLaws.{met}
 use Rattle.sequence.specs.Sequences.{Unread, Sequences, last, next}
+
+-- of a sequence no call begins another, the first and those after it
+pub none-begins : (c : Call) (cs : List Call) → Unread (c ∷ cs) → (begins c ≡ false) × Unread cs
+unfolding Unread
+none-begins c cs u = u
+
+-- a read of a store begins one
+pub read-begins : (text : List ℕ) (ports : List Port) → readStore text ≡ storeOf ports → begins (restore text) ≡ true
+unfolding begins
+read-begins text ports e = ap isStore e
 
 -- the same on any station: calls up to the first accepted read, and the sequences from there
 data Parted : Station → List Made → Type 0 where

@@ -36,8 +36,8 @@ const ROOM: usize = HEADER + LINE * DEVICES;
 fn put_index(buffer: &mut [u8], at: usize, index: FeatureIndex) -> usize
     ensures { λ r. ⌜ Puts indexMost (indexText 0 index) at (now (buffer .entry)) r (now (buffer .exit)) ⌝ }
 {
-    let at = text::put_byte(buffer, at, text::TAB);
-    text::put_small(buffer, at, index.0)
+    let next = text::put_byte(buffer, at, text::TAB);
+    text::put_small(buffer, next, index.0)
 }
 
 // The indexes of the known features.

@@ -1,5 +1,5 @@
 -- `encoded::call` meets its contract.
-use Rattle.encoded.specs.CallsLaws.{is-take, is-request, is-cancel, is-tick, is-write}
+use Rattle.encoded.specs.CallsLaws.{is-take, is-request, is-cancel, is-tick, is-restore, is-write}
 use borrow.Author.Needs.{needs}
 use Rattle.encoded.proofs.call.Statement.{statement}
 use Rattle.encoded.proofs.call.Tie as tie
@@ -17,7 +17,10 @@ returns-4 : tie.Need-returns-4
 returns-4 c = is-tick _ (c .before .before .before .before .before .before .before .args .h) _ _ (c .before .before .before .before .before .before .before .pre) (c .before .before .before .tick .result) (c .before .before .before .before .match .keys4) (c .before .of-ticked .ensures) (c .before .before .before .tick .ensures)
 
 returns-5 : tie.Need-returns-5
-returns-5 c = is-write _ (c .before .before .before .before .before .before .before .before .args .h) _ _ (c .before .before .before .write .result) (c .before .before .before .before .before .match .rest .0 .0 .0 .1) (c .before .before .before .before .before .match .rest .0 .0 .1) (c .before .before .before .before .before .match .rest .0 .1) (c .before .before .before .before .before .match .rest .1) (c .of-written2 .ensures) (c .before .before .before .write .ensures)
+returns-5 c = is-restore _ (c .before .before .before .before .args .h) _ _ (c .before .before .before .before .pre) (c .restore-from .result) (c .before .match .keys5) (c .restore-from .ensures)
+
+returns-6 : tie.Need-returns-6
+returns-6 c = is-write _ (c .before .before .before .before .before .before .before .before .args .h) _ _ (c .before .before .before .write .result) (c .before .before .before .before .before .match .rest .0 .0 .0 .0 .1) (c .before .before .before .before .before .match .rest .0 .0 .0 .1) (c .before .before .before .before .before .match .rest .0 .0 .1) (c .before .before .before .before .before .match .rest .0 .1) (c .before .before .before .before .before .match .rest .1) (c .of-written2 .ensures) (c .before .before .before .write .ensures)
 
 pub call-spec : {M : Type 1} → statement M
 call-spec =
@@ -34,10 +37,12 @@ call-spec =
     (λ c κs. search needs)
     (λ c κs. search needs)
     (λ c κs. search needs)
+    (λ c κs. search needs)
     returns
     (λ c. search needs)
     returns-2
     returns-3
     returns-4
+    returns-5
     (λ c. search needs)
-    returns-5)
+    returns-6)

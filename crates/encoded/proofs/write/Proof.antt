@@ -19,13 +19,18 @@ returns-3 c = simp (c .before .before .before .before .match .keys3) (c .before 
 
 returns-4 : tie.Need-returns-4
 unfolding blockWriter
-returns-4 c = simp (ne-eqb _ _ (c .before .before .before .before .match .rest .0 .0 .1), ne-eqb _ _ (c .before .before .before .before .match .rest .0 .1), ne-eqb _ _ (c .before .before .before .before .match .rest .1)) (c .before .before .list .ensures)
+returns-4 c = simp (c .before .before .before .before .match .keys4) (c .before .before .list .ensures)
+
+returns-5 : tie.Need-returns-5
+unfolding blockWriter
+returns-5 c = simp (ne-eqb _ _ (c .before .before .before .before .match .rest .0 .0 .0 .1), ne-eqb _ _ (c .before .before .before .before .match .rest .0 .0 .1), ne-eqb _ _ (c .before .before .before .before .match .rest .0 .1), ne-eqb _ _ (c .before .before .before .before .match .rest .1)) (c .before .before .store .ensures)
 
 pub write-spec : {M : Type 1} → statement M
 write-spec =
     tie.close
     (tie.spec
     (λ c. search needs)
+    (λ c κs. search needs)
     (λ c κs. search needs)
     (λ c κs. search needs)
     (λ c κs. search needs)
@@ -37,4 +42,6 @@ write-spec =
     (λ c. search needs)
     returns-3
     (λ c. search needs)
-    returns-4)
+    returns-4
+    (λ c. search needs)
+    returns-5)

@@ -11,20 +11,17 @@ use Rattle.replay_desk.proofs.answer_line.Tie as tie
 returns : tie.Need-returns
 returns c = (refused _ _ _ _ _ (sym (c .before .fits2 .ensures) ∙ not-true _ (c .if1 .taken)), omega arith)
 
-array-share-prefix-bytes : tie.Need-array-share-prefix-bytes
-array-share-prefix-bytes c = c .before .parse-line .ensures .1
-
 slice-aggregate-respond : tie.Need-slice-aggregate-respond
-slice-aggregate-respond c = sym (length-take-le _ _ (c .before .before .parse-line .ensures .1))
+slice-aggregate-respond c = sym (length-take-le _ _ (omega (arith, c .before .before .before .parse-line .ensures .1, c .before .held2 .given)))
 
 respond-requires : tie.Need-respond-requires
-respond-requires c κs = (sym (c .before .before .before .before .before .fits2 .ensures) ∙ not-false _ (c .before .before .before .before .if1 .left), lends-little _ _ (c .before .before .before .parse-line .ensures .0))
+respond-requires c κs = (sym (c .before .before .before .before .before .before .before .fits2 .ensures) ∙ not-false _ (c .before .before .before .before .before .before .if1 .left), lends-little _ _ (c .before .before .before .before .parse-line .ensures .0))
 
-sub-t13 : tie.Need-sub-t13
-sub-t13 c = after _ _ (c .before .before .before .before .before .before .before .before .before .before .before .before .before .args .line .now) _ _ _ (c .before .before .before .before .respond .result) _ (c .before .before .before .before .before .before .before .before .parse-line .ensures .0) (c .before .before .before .before .respond .ensures)
+sub-t14 : tie.Need-sub-t14
+sub-t14 c = after _ _ (c .before .before .before .before .before .before .before .before .before .before .before .before .before .before .before .args .line .now) _ _ _ (c .before .before .before .before .respond .result) _ (c .before .before .before .before .before .before .before .before .before .parse-line .ensures .0) (c .before .before .before .before .respond .ensures)
 
 returns-2 : tie.Need-returns-2
-returns-2 c = (answered _ _ _ _ _ _ (c .before .before .before .before .respond .result) _ (c .before .before .before .before .before .before .before .before .parse-line .ensures .0) (c .before .before .before .before .respond .ensures) (sym (c .before .before .before .before .before .before .before .before .before .before .fits2 .ensures) ∙ not-false _ (c .before .before .before .before .before .before .before .before .before .if1 .left)), within _ _ _ _ _ _ (c .before .before .before .before .respond .result) _ (c .before .before .before .before .before .before .before .before .parse-line .ensures .0) (c .before .before .before .before .respond .ensures) (sym (c .before .before .before .before .before .before .before .before .before .before .fits2 .ensures) ∙ not-false _ (c .before .before .before .before .before .before .before .before .before .if1 .left)) (search needs))
+returns-2 c = (answered _ _ _ _ _ _ (c .before .before .before .before .respond .result) _ (c .before .before .before .before .before .before .before .before .before .parse-line .ensures .0) (c .before .before .before .before .respond .ensures) (sym (c .before .before .before .before .before .before .before .before .before .before .before .before .fits2 .ensures) ∙ not-false _ (c .before .before .before .before .before .before .before .before .before .before .before .if1 .left)), within _ _ _ _ _ _ (c .before .before .before .before .respond .result) _ (c .before .before .before .before .before .before .before .before .before .parse-line .ensures .0) (c .before .before .before .before .respond .ensures) (sym (c .before .before .before .before .before .before .before .before .before .before .before .before .fits2 .ensures) ∙ not-false _ (c .before .before .before .before .before .before .before .before .before .before .before .if1 .left)) (search needs))
 
 pub answer-line-spec : {M : Type 1} → statement M
 answer-line-spec =
@@ -33,9 +30,8 @@ answer-line-spec =
     (λ c κs. search needs)
     returns
     (λ c κs. search needs)
-    array-share-prefix-bytes
     slice-aggregate-respond
     respond-requires
-    sub-t13
+    sub-t14
     (λ c. search needs)
     returns-2)

@@ -30,7 +30,11 @@ returns-5 c = rw (c .before .before .before .before .enum-told2 .given .1) (ap (
 
 returns-6 : tie.Need-returns-6
 unfolding writerStep steps.step callText
-returns-6 c = rw (c .before .before .before .before .before .writer4 .given .1) (ap (λ (o : WriteOutcome). stepped (steps.writeStep (c .before .before .before .before .before .before .before .before .before .args .station) o)) (c .before .before .request-frame .ensures))
+returns-6 c = rw (c .before .before .before .before .enum-told3 .given .1) (ap (λ (o : WriteOutcome). stepped (steps.writeStep (c .before .before .before .before .before .before .before .before .args .station) o)) (c .before .before .store .ensures))
+
+returns-7 : tie.Need-returns-7
+unfolding writerStep steps.step callText
+returns-7 c = rw (c .before .before .before .before .before .writer4 .given .1) (ap (λ (o : WriteOutcome). stepped (steps.writeStep (c .before .before .before .before .before .before .before .before .before .args .station) o)) (c .before .before .request-frame .ensures))
 
 pub make-spec : {M : Type 1} → statement M
 make-spec =
@@ -51,6 +55,8 @@ make-spec =
     (λ c. search needs)
     (λ c κs. search needs)
     (λ c. search needs)
+    (λ c κs. search needs)
+    (λ c. search needs)
     returns-2
     (λ c. search needs)
     returns-3
@@ -59,4 +65,6 @@ make-spec =
     (λ c. search needs)
     returns-5
     (λ c. search needs)
-    returns-6)
+    returns-6
+    (λ c. search needs)
+    returns-7)

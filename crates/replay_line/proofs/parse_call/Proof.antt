@@ -15,7 +15,7 @@ part-named-call-end : tie.Need-part-named-call-end
 part-named-call-end c = omega (arith, c .next-word .ensures .ordered, c .next-word .ensures .within)
 
 returns : tie.Need-returns
-returns c = same-command (c .named-call .ensures) (named (c .before .before .next-word .ensures))
+returns c = same-command (c .named-call .ensures) (named (c .before .before .before .next-word .ensures))
 
 pub parse-call-spec : {M : Type 1} → statement M
 parse-call-spec =

@@ -8,10 +8,10 @@ use Rattle.replay_script.proofs.answer_lines.Statement.{statement}
 use Rattle.replay_script.proofs.answer_lines.Tie as tie
 
 abbrev Inv-loop : tie.InvT-loop
-Inv-loop number text output₀ run₀ at₀ end₀ output run at end = Answering text output₀ run₀ output run at end
+Inv-loop number text output₀ run₀ bytes₀ at₀ end₀ output run bytes at end = Answering text output₀ run₀ output run at end
 
 abbrev μ-loop : tie.MeasureT-loop
-μ-loop number text output₀ run₀ at₀ end₀ output run at end = length text - end
+μ-loop number text output₀ run₀ bytes₀ at₀ end₀ output run bytes at end = length text - end
 
 find-requires : tie.Need-find-requires Inv-loop μ-loop
 find-requires c κs = (omega arith, omega arith)
@@ -38,19 +38,19 @@ part-answer-end : tie.Need-part-answer-end Inv-loop μ-loop
 part-answer-end c = omega (arith, c .before .before .before .loop .inv .ordered, c .before .before .before .loop .inv .within)
 
 answer-requires : tie.Need-answer-requires Inv-loop μ-loop
-answer-requires c κs = has-room (c .before .before .before .before .before .loop .inv) (c .before .before .before .before .loop-test .taken) (c .before .before .if1 .left)
+answer-requires c κs = has-room (c .before .before .before .before .before .before .loop .inv) (c .before .before .before .before .before .loop-test .taken) (c .before .before .before .if1 .left)
 
 add-at : tie.Need-add-at Inv-loop μ-loop
-add-at c = omega (arith, c .before .before .before .before .before .before .before .loop-test .taken)
+add-at c = omega (arith, c .before .before .before .before .before .before .before .before .loop-test .taken)
 
 find-requires-2 : tie.Need-find-requires-2 Inv-loop μ-loop
-find-requires-2 c κs = (omega (arith, c .before .before .before .before .before .before .before .loop-test .taken), omega arith)
+find-requires-2 c κs = (omega (arith, c .before .before .before .before .before .before .before .before .loop-test .taken), omega arith)
 
 loop-less : tie.Need-loop-less Inv-loop μ-loop
-loop-less c = omega (arith, c .find2 .ensures .0, c .find2 .ensures .1, c .before .before .before .before .before .before .before .before .loop-test .taken)
+loop-less c = omega (arith, c .find2 .ensures .0, c .find2 .ensures .1, c .before .before .before .before .before .before .before .before .before .loop-test .taken)
 
 loop-again : tie.Need-loop-again Inv-loop μ-loop
-loop-again c = answered-more (c .before .before .before .before .before .before .before .before .before .loop .inv) (c .before .before .before .before .before .before .before .before .loop-test .taken) (c .before .before .before .before .before .before .if1 .left) (c .before .before .before .answer .result) (c .before .before .before .answer .ensures) (search needs) (c .find2 .ensures .0) (c .find2 .ensures .1)
+loop-again c = answered-more (c .before .before .before .before .before .before .before .before .before .before .loop .inv) (c .before .before .before .before .before .before .before .before .before .loop-test .taken) (c .before .before .before .before .before .before .before .if1 .left) (c .before .before .before .answer .result) (c .before .before .before .answer .ensures) (search needs) (c .find2 .ensures .0) (c .find2 .ensures .1)
 
 same-length-2 : tie.Need-same-length-2 Inv-loop μ-loop
 same-length-2 c = c .before .before .loop .inv .same

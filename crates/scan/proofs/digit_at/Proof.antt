@@ -7,11 +7,11 @@ use Rattle.scan.proofs.digit_at.Statement.{statement}
 use Rattle.scan.proofs.digit_at.Tie as tie
 
 returns : tie.Need-returns
-returns c =
-    (c .capital-digit .ensures ∙ front-digit _ _ (c .before .before .if1 .taken), λ z. c .before .before .if1 .taken)
+returns c = (no-front-digit _ _ (c .if1 .taken), λ z. absurd (omega (arith, z)))
 
 returns-2 : tie.Need-returns-2
-returns-2 c = (no-front-digit _ _ (c .if1 .left), λ z. absurd (omega (arith, z)))
+returns-2 c =
+    (c .capital-digit .ensures ∙ front-digit _ _ (c .before .before .if1 .left), λ z. c .before .before .if1 .left)
 
 pub digit-at-spec : {M : Type 1} → statement M
-digit-at-spec = tie.close (tie.spec (λ c. search needs) (λ c κs. search needs) returns returns-2)
+digit-at-spec = tie.close (tie.spec returns (λ c. search needs) (λ c κs. search needs) returns-2)

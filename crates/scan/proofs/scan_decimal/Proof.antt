@@ -8,7 +8,7 @@ use Rattle.scan.proofs.scan_decimal.Tie as tie
 
 returns : tie.Need-returns
 returns c =
-    let n = c .nothing .ensures in
+    let n = c .not-found .ensures in
     (decimal-none _ _ _ _ (omega arith) (c .before .before .before .scan-number .ensures) (not-true _ (c .before .if1 .taken)) n, omega (arith, n .zero))
 
 returns-2 : tie.Need-returns-2
@@ -17,7 +17,7 @@ returns-2 c =
 
 returns-3 : tie.Need-returns-3
 returns-3 c =
-    let n = c .nothing2 .ensures in
+    let n = c .not-found2 .ensures in
     (decimal-over _ _ _ _ (omega arith) (c .before .before .before .before .before .scan-number .ensures) (not-false _ (c .before .before .before .if1 .left)) (c .before .if2 .left) n, omega (arith, n .zero))
 
 pub scan-decimal-spec : {M : Type 1} → statement M

@@ -17,7 +17,7 @@ loop-holds c = hex-begun _ _ _ 0
 
 returns : tie.Need-returns Inv-loop μ-loop
 returns c =
-    let n = c .nothing .ensures in
+    let n = c .not-found .ensures in
     (hex-missing _ _ _ _ (c .before .before .before .before .loop .inv) (c .before .before .digit-at .ensures .0) (c .before .before .before .loop-test .taken) (c .before .if1 .taken) n, hex-small _ (n .zero))
 
 mul-value : tie.Need-mul-value Inv-loop μ-loop

@@ -10,13 +10,13 @@ use Rattle.scan.proofs.scan_number.Statement.{statement}
 use Rattle.scan.proofs.scan_number.Tie as tie
 
 returns : tie.Need-returns
-returns c = number-past _ _ _ (c .before .if1 .taken) (c .nothing .ensures)
+returns c = number-past _ _ _ (c .before .if1 .taken) (c .not-found .ensures)
 
 returns-2 : tie.Need-returns-2
 returns-2 c = number-zero _ _ _ (c .before .before .before .if1 .left) (c .before .if2 .taken) (c .stop-at .ensures .0)
 
 returns-3 : tie.Need-returns-3
-returns-3 c = number-none _ _ _ (c .before .before .before .before .before .if1 .left) (sym (c .before .before .within .ensures) ∙ not-true _ (c .before .if3 .taken)) (c .nothing2 .ensures)
+returns-3 c = number-none _ _ _ (c .before .before .before .before .before .if1 .left) (sym (c .before .before .within .ensures) ∙ not-true _ (c .before .if3 .taken)) (c .not-found2 .ensures)
 
 sub-digits-after : tie.Need-sub-digits-after
 sub-digits-after c = omega (arith, in-range 48 (getD (c .before .before .before .before .before .before .args .text .now) (c .before .before .before .before .before .before .args .at) 0) 57 (sym (c .before .within .ensures) ∙ not-false _ (c .if3 .left)) .0)

@@ -19,7 +19,7 @@ loop-holds : tie.Need-loop-holds Inv-loop μ-loop
 loop-holds c = word-begun _ _ _
 
 returns : tie.Need-returns Inv-loop μ-loop
-returns c = word-missing _ _ _ (c .before .before .before .before .before .loop .inv) (c .before .before .before .before .loop-test .taken) (sym (c .before .before .is-at .ensures .0) ∙ not-true _ (c .before .if1 .taken)) (c .nothing .ensures)
+returns c = word-missing _ _ _ (c .before .before .before .before .before .loop .inv) (c .before .before .before .before .loop-test .taken) (sym (c .before .before .is-at .ensures .0) ∙ not-true _ (c .before .if1 .taken)) (c .not-found .ensures)
 
 add-next : tie.Need-add-next Inv-loop μ-loop
 add-next c = omega (arith, c .before .is-at .ensures .1 (not-false _ (c .if1 .left)))

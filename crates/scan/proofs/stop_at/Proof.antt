@@ -14,7 +14,7 @@ returns c = (stop-found _ _ _ _ (sym (c .before .is-at .ensures .0) ∙ c .if1 .
 
 returns-2 : tie.Need-returns-2
 returns-2 c =
-    let n = c .nothing .ensures in
+    let n = c .not-found .ensures in
     (stop-missing _ _ _ _ (sym (c .before .before .is-at .ensures .0) ∙ c .before .if1 .left) n, omega (arith, n .zero))
 
 pub stop-at-spec : {M : Type 1} → statement M

@@ -1,5 +1,5 @@
 -- `encoded::block::is_writer` meets its contract.
-use borrow.Author.Tests.{eq-eqb, ne-eqb}
+use borrow.Author.Tests.{eq-eqb, ne-eqb, le-leb, lt-leb}
 use Rattle.encoded.proofs.block.is_writer.Statement.{statement}
 use Rattle.encoded.proofs.block.is_writer.Tie as tie
 
@@ -7,7 +7,10 @@ returns : tie.Need-returns
 returns c = simp (eq-eqb _ _ (c .if1 .taken))
 
 returns-2 : tie.Need-returns-2
-returns-2 c = simp (ne-eqb _ _ (c .if1 .left))
+returns-2 c = simp (ne-eqb _ _ (c .before .if1 .left), lt-leb _ _ (c .if2 .taken))
+
+returns-3 : tie.Need-returns-3
+returns-3 c = simp (ne-eqb _ _ (c .before .if1 .left), le-leb _ _ (c .if2 .left))
 
 pub is-writer-spec : {M : Type 1} → statement M
-is-writer-spec = tie.close (tie.spec returns returns-2)
+is-writer-spec = tie.close (tie.spec returns returns-2 returns-3)
