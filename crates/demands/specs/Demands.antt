@@ -18,7 +18,7 @@ use Rattle.serial.specs.Giving.{Gives}
 use Rattle.port.specs.declared.Port.{Port}
 use Rattle.store.specs.Stores.{storeText, storedOf, Store}
 use Rattle.keeping.specs.Lines.{OtherEdition, BrokenAt}
-use Rattle.keeping.specs.Keeping.{accepted, refusedOther, refusedBroken, KeptStores}
+use Rattle.keeping.specs.Keeping.{accepted, refusedOther, refusedBroken, StoresKept}
 use Rattle.station.specs.declared.Station.{Station}
 use Rattle.station.specs.declared.TakeResult.{TakeResult}
 use Rattle.station.specs.declared.RestoreResult.{RestoreResult}
@@ -124,6 +124,6 @@ pub record Demands : Type 0 where
   -- What is gathered of the rules alone, of every station and of every list of calls: their cases, their refusals, what they end and change; and each port by itself, any two orders, and which calls have an encoding
   pub of-the-rules : Complete
   -- of the store: what reading and writing come to for every text and all ports, and that the texts that are accepted are exactly those that the writer writes for some station that calls reach
-  pub of-stores : KeptStores
+  pub of-stores : StoresKept
   pub of-texts : AllWritten
   pub of-runs : Demand3

@@ -16,7 +16,7 @@ use Rattle.restore.specs.Restoring.{StoreRead, storeOf, ofOther, brokenAt, read
 use Rattle.keeping.specs.Lines.{OtherEdition, BrokenAt}
 use Rattle.keeping.specs.ReadingLaws.{linesFrom, fresh-stored, paired-line, no-line, store-lines, reads-exactly, other-exactly}
 use Rattle.keeping.specs.LinesLaws.{broken-exactly, line-bounds, one-of}
-use Rattle.keeping.specs.Keeping.{Storable, ReadBack, accepted, refusedOther, refusedBroken, KeptStores}
+use Rattle.keeping.specs.Keeping.{Storable, ReadBack, accepted, refusedOther, refusedBroken, StoresKept}
 
 -- what a store keeps of a port
 pub kept-paired : (p : Port) → p .paired ≡ true → storedOf p ≡ padPort (p .wpid) (p .serial) (p .reports) (p .version) (p .features)
@@ -202,7 +202,7 @@ module _ (ports : List Port) where
   refuses-broken text n =
       ((λ e. broken-exactly text n .0 (answered-broken n (readStore text) e)), (λ s. ap (restoredBy ports) (broken-exactly text n .1 s)))
 
-pub keeping : KeptStores
+pub keeping : StoresKept
 keeping =
     record {
       read-back = read-back;

@@ -17,7 +17,7 @@ use Rattle.store.specs.Stores.{editionLine, storeText, padPort, storedOf, Index
 use Rattle.store.specs.StoresExamples.{paired-and-asked}
 use Rattle.restore.specs.Restoring.{storeOf, readStore, restoredBy, restorePorts}
 use Rattle.keeping.specs.Lines.{firstLines, IsStore, OtherEdition, BrokenAt}
-use Rattle.keeping.specs.Keeping.{Storable, ReadBack, accepted, refusedOther, refusedBroken, KeptStores}
+use Rattle.keeping.specs.Keeping.{Storable, ReadBack, accepted, refusedOther, refusedBroken, StoresKept}
 use Rattle.keeping.specs.KeepingExamples.{first-lines, device-lines}
 
 -- device 2 of the document's example, with its link up, a battery, and a request that waits
@@ -84,7 +84,7 @@ one-reading p q r a b = λ i.
       places = (a .places ∙ sym (b .places)) i;
     }
 
-module _ (k : KeptStores) where
+module _ (k : StoresKept) where
   -- link, battery and requests are not kept
   read-without-link : readStore (storeText busyPorts) ≡ storeOf askedPorts
   unfolding storedOf busy freshPort padPort paired-and-asked

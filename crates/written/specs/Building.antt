@@ -16,8 +16,8 @@ use Rattle.serial.specs.Serials.{longRegister, serialRegister, parameterFor}
 use Rattle.sequence.specs.Steps.{Call, take, request, cancel, tick, write, restore}
 
 -- a 0x41 with this WPID and bitfield, lowest byte first
-abbrev pub pairingReport : (number wpid reports : ℕ) → List ℕ
-pairingReport number wpid reports =
+abbrev pub pairedReport : (number wpid reports : ℕ) → List ℕ
+pairedReport number wpid reports =
     djShort ∷ number ∷ 0x41 ∷ 0 ∷ wpid % 256 ∷ wpid / 256 ∷ reports % 256 ∷ reports / 256 % 256 ∷ reports / 256 / 256 % 256 ∷ reports / 256 / 256 / 256 ∷ replicate 5 0
 
 -- a buffer for a short request
@@ -60,7 +60,7 @@ serialCalls number (serials.Known serial) =
 unfoldable pub deviceCalls : ℕ → Port → List Call
 deviceCalls number p =
     cond (p .paired)
-    (take (pairingReport number (p .wpid) (p .reports))
+    (take (pairedReport number (p .wpid) (p .reports))
     ∷ (versionCalls number (p .version)
     ++ (indexesCalls number knownFeatures (p .features)
     ++ serialCalls number (p .serial))))

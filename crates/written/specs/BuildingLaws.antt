@@ -39,7 +39,7 @@ use Rattle.station.specs.StationTaking.{storedAt, alsoAt, takeBy, takeRule}
 use Rattle.station.specs.StationCalls.{requestedAt, requestRule}
 use Rattle.sequence.specs.NumbersLaws.{device-port}
 use Rattle.sequence.specs.Steps.{Call, take, request, step, run}
-use Rattle.written.specs.Building.{pairingReport, shortBuffer, asks, replies, versionCalls, indexCalls, indexesCalls, serialAnswer, serialCalls}
+use Rattle.written.specs.Building.{pairedReport, shortBuffer, asks, replies, versionCalls, indexCalls, indexesCalls, serialAnswer, serialCalls}
 
 -- one call after others
 pub run-append : (st : Station) (cs ds : List Call) → run st (cs ++ ds) ≡ run (run st cs) ds
@@ -159,16 +159,16 @@ module _ (base : Station) (n : ℕ) (named : isDevice n ≡ true) (seven : lengt
       station ports = record { ports = ports }
 
   -- it is paired
-  read-pairing : (wpid reports : ℕ) → readRule (pairingReport n wpid reports) ≡ reading.dj (reportFrom djStart (pairingReport n wpid reports))
+  read-pairing : (wpid reports : ℕ) → readRule (pairedReport n wpid reports) ≡ reading.dj (reportFrom djStart (pairedReport n wpid reports))
   unfolding readRule familyRule djRule reportFrom lengthOf
   read-pairing wpid reports =
-      ap (λ (b : Bool). cond (not b) (reading.refused noSuchPort) (reading.dj (reportFrom djStart (pairingReport n wpid reports)))) named
+      ap (λ (b : Bool). cond (not b) (reading.refused noSuchPort) (reading.dj (reportFrom djStart (pairedReport n wpid reports)))) named
 
-  pub paired : (wpid reports : ℕ) → run (with-device freshPort) (take (pairingReport n wpid reports) ∷ []) ≡ with-device (padPort wpid serials.Unknown reports versions.Unknown noIndexes)
+  pub paired : (wpid reports : ℕ) → run (with-device freshPort) (take (pairedReport n wpid reports) ∷ []) ≡ with-device (padPort wpid serials.Unknown reports versions.Unknown noIndexes)
   unfolding run step takeRule takeBy takeDj pairedRule reportFrom madeFresh withPairing freshPort padPort
   paired wpid reports =
-      ap (λ (r : reading.Read). takeBy r (pairingReport n wpid reports) (with-device freshPort) .station) (read-pairing wpid reports)
-      ∙ ap (λ (p : Port). withPort (with-device freshPort) (positionOf n) (takeDj p (reportFrom djStart (pairingReport n wpid reports)) (pairingReport n wpid reports) .port)) (at-device freshPort)
+      ap (λ (r : reading.Read). takeBy r (pairedReport n wpid reports) (with-device freshPort) .station) (read-pairing wpid reports)
+      ∙ ap (λ (p : Port). withPort (with-device freshPort) (positionOf n) (takeDj p (reportFrom djStart (pairedReport n wpid reports)) (pairedReport n wpid reports) .port)) (at-device freshPort)
       ∙ again freshPort (padPort (joined2 (wpid % 256) (wpid / 256)) serials.Unknown (joined4 (reports % 256) (reports / 256 % 256) (reports / 256 / 256 % 256) (reports / 256 / 256 / 256)) versions.Unknown noIndexes)
       ∙ (λ i. with-device (padPort (two-bytes wpid i) serials.Unknown (four-bytes reports i) versions.Unknown noIndexes))
 

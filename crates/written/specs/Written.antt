@@ -20,11 +20,11 @@ pub record Built (ports : List Port) : Type 0 where
   pub bytes : AllTakeOrAsk calls
   pub so : run freshStation calls ≡ record { ports = ports }
 
--- those after which the store of the station is this text
+-- the text is the store of such a station
 pub record WrittenBy (text : List ℕ) : Type 0 where
-  pub calls : List Call
-  pub bytes : AllTakeOrAsk calls
-  pub so : storeText (run freshStation calls .ports) ≡ text
+  pub ports : List Port
+  pub built : Built ports
+  pub so : text ≡ storeText ports
 
 pub record AllWritten : Type 0 where
   -- calls reach every station that a store restores

@@ -31,7 +31,7 @@ use Rattle.sequence.specs.Starts.{Start, fresh}
 use Rattle.sequence.specs.Steps.{Call, take, request, cancel, tick, write, restore, store, step, run}
 use Rattle.widths.specs.Widths.{ReadsBytes, AllRead}
 use Rattle.widths.specs.WidthsLaws.{reads-back}
-use Rattle.written.specs.Building.{pairingReport, asks, replies, versionCalls, indexCalls, indexesCalls, serialCalls, deviceCalls, devicesCalls, AllBytes, TakesOrAsks, AllTakeOrAsk}
+use Rattle.written.specs.Building.{pairedReport, asks, replies, versionCalls, indexCalls, indexesCalls, serialCalls, deviceCalls, devicesCalls, AllBytes, TakesOrAsks, AllTakeOrAsk}
 use Rattle.written.specs.BuildingLaws.{run-append, noIndexes, with-device, paired, version-told, indexes-told, serial-told}
 use Rattle.written.specs.Written.{Built, WrittenBy, AllWritten}
 
@@ -50,9 +50,9 @@ module _ (base : Station) (n : ℕ) (named : isDevice n ≡ true) (seven : lengt
   all-indexes wpid reports version (a ∷ b ∷ c ∷ d ∷ e ∷ f ∷ features) h fits = absurd (omega (arith, h))
 
   -- all that is known of a device is told
-  pad-told : (wpid reports : ℕ) (serial : Serial) (version : Version) (features : List FeatureIndex) → length features ≡ featureCount → IndexesFit features → run (at freshPort) (take (pairingReport n wpid reports) ∷ (versionCalls n version ++ (indexesCalls n knownFeatures features ++ serialCalls n serial))) ≡ at (padPort wpid serial reports version features)
+  pad-told : (wpid reports : ℕ) (serial : Serial) (version : Version) (features : List FeatureIndex) → length features ≡ featureCount → IndexesFit features → run (at freshPort) (take (pairedReport n wpid reports) ∷ (versionCalls n version ++ (indexesCalls n knownFeatures features ++ serialCalls n serial))) ≡ at (padPort wpid serial reports version features)
   pad-told wpid reports serial version features all fits =
-      run-append (at freshPort) (take (pairingReport n wpid reports) ∷ []) (versionCalls n version ++ (indexesCalls n knownFeatures features ++ serialCalls n serial))
+      run-append (at freshPort) (take (pairedReport n wpid reports) ∷ []) (versionCalls n version ++ (indexesCalls n knownFeatures features ++ serialCalls n serial))
       ∙ ap (λ (st : Station). run st (versionCalls n version ++ (indexesCalls n knownFeatures features ++ serialCalls n serial))) (paired base n named seven idle wpid reports)
       ∙ run-append (at (padPort wpid serials.Unknown reports versions.Unknown noIndexes)) (versionCalls n version) (indexesCalls n knownFeatures features ++ serialCalls n serial)
       ∙ ap (λ (st : Station). run st (indexesCalls n knownFeatures features ++ serialCalls n serial)) (version-told base n named seven idle wpid serials.Unknown reports version noIndexes)
@@ -65,7 +65,7 @@ module _ (base : Station) (n : ℕ) (named : isDevice n ≡ true) (seven : lengt
   device-told p h = go (p .paired) refl
     where
       calls : List Call
-      calls = take (pairingReport n (p .wpid) (p .reports)) ∷ (versionCalls n (p .version) ++ (indexesCalls n knownFeatures (p .features) ++ serialCalls n (p .serial)))
+      calls = take (pairedReport n (p .wpid) (p .reports)) ∷ (versionCalls n (p .version) ++ (indexesCalls n knownFeatures (p .features) ++ serialCalls n (p .serial)))
 
       go : (b : Bool) → p .paired ≡ b → run (at freshPort) (deviceCalls n p) ≡ at p
       go true e =
@@ -162,7 +162,7 @@ module _ (n : ℕ) (small : n ≤ deviceCount) where
   zero-byte : 0 < 256
   zero-byte = omega arith
 
-  pairing-bytes : (wpid reports : ℕ) → wpid < 65536 → reports < 4294967296 → TakesOrAsks (take (pairingReport n wpid reports))
+  pairing-bytes : (wpid reports : ℕ) → wpid < 65536 → reports < 4294967296 → TakesOrAsks (take (pairedReport n wpid reports))
   unfolding TakesOrAsks AllBytes
   pairing-bytes wpid reports w r =
       (omega arith, (byte-n, (omega arith, (zero-byte, (omega arith, (omega (arith, w), (omega arith, (omega arith, (omega arith, (omega (arith, r), (zero-byte, (zero-byte, (zero-byte, (zero-byte, (zero-byte, tt)))))))))))))))
@@ -200,7 +200,7 @@ module _ (n : ℕ) (small : n ≤ deviceCount) where
       calls : List Call
       calls = versionCalls n (p .version) ++ (indexesCalls n knownFeatures (p .features) ++ serialCalls n (p .serial))
 
-      go : (b : Bool) → p .paired ≡ b → AllTakeOrAsk (cond b (take (pairingReport n (p .wpid) (p .reports)) ∷ calls) [])
+      go : (b : Bool) → p .paired ≡ b → AllTakeOrAsk (cond b (take (pairedReport n (p .wpid) (p .reports)) ∷ calls) [])
       go false e = tt
       go true e =
           let f : PadFits p = h .fits e in
@@ -224,13 +224,7 @@ built text ports s =
 
 -- and each store is written
 written-by : (text : List ℕ) → IsStore text → WrittenBy text
-written-by text (ports, s) =
-    let b = built text ports s in
-    record {
-      calls = b .calls;
-      bytes = b .bytes;
-      so = ap (λ (st : Station). storeText (st .ports)) (b .so) ∙ sym (s .so);
-    }
+written-by text (ports, s) = record { ports = ports; built = built text ports s; so = s .so }
 
 -- what is lent are bytes
 byte-at : (bytes : List ℕ) → AllBytes bytes → (i : ℕ) → byte bytes i < 256
@@ -256,6 +250,13 @@ all-read (c ∷ cs) h = (reads-bytes c (h .0), all-read cs (h .1))
 accepted : (st : Station) → Start st → (cs : List Call) → AllRead cs → IsStore (storeText (run st cs .ports))
 accepted st start cs h = keeping .written (storeText (run st cs .ports)) .1 (run st cs .ports, (reads-back .storable st start cs h, refl))
 
+-- what is written is a store
+by-store : (text : List ℕ) → WrittenBy text → IsStore text
+by-store text w =
+    let b = w .built in
+    let is : storeText (run freshStation (b .calls) .ports) ≡ text = ap (λ (st : Station). storeText (st .ports)) (b .so) ∙ sym (w .so) in
+    subst IsStore is (accepted freshStation fresh (b .calls) (all-read (b .calls) (b .bytes)))
+
 -- with just room enough
 module _ (text : List ℕ) where
   abbrev room : List ℕ
@@ -280,7 +281,7 @@ pub all-written : AllWritten
 all-written =
     record {
       built = built;
-      exactly = λ text. (written-by text, (λ w. subst IsStore (w .so) (accepted freshStation fresh (w .calls) (all-read (w .calls) (w .bytes)))));
+      exactly = λ text. (written-by text, by-store text);
       accepted = accepted;
       wrote = wrote-all;
     }
