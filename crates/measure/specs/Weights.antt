@@ -1,10 +1,11 @@
 -- The benchmark's number for an answer: the numbers that it carries added up, over a base for its kind.
-use Prim.Native.Nat.{ℕ, _+_}
+use Prim.Native.Nat.{ℕ, _+_, _*_}
 use mathlib.Core.List.{List}
 use Rattle.report.specs.Sizes.{byte}
 use Rattle.frame.specs.Writing as writing
 use Rattle.port.specs.Answers.{About, Answer, refused, reply, stray, plain, event, failed, radio, notice}
 use Rattle.port.specs.Waiting as waiting
+use Rattle.restore.specs.Restoring as restoring
 
 abbrev pub aboutWeight : ℕ → About → ℕ
 aboutWeight base a = base + a .port + a .byte2 + a .byte3 + a .start + a .size
@@ -31,3 +32,9 @@ cancelWeight waiting.done = 0
 abbrev pub tickWeight : List ℕ → ℕ
 tickWeight ended =
     byte ended 0 + byte ended 1 + byte ended 2 + byte ended 3 + byte ended 4 + byte ended 5 + byte ended 6
+
+-- where a line breaks the rules, its number counts too
+abbrev pub restoreWeight : restoring.RestoreAnswer → ℕ
+restoreWeight restoring.restored = 8000
+restoreWeight (restoring.refused number) = number
+restoreWeight (restoring.refusedAt number line) = number + 100 * line

@@ -1,16 +1,18 @@
 // Many calls on one station that is kept in a local, for the benchmark. bench/measure.h is the C side.
 ghost use mathlib.Core.Path.{_≡_};
 ghost use Prim.Native.Nat.{_≤_};
-ghost use Rattle.measure.specs.Weights.{aboutWeight, takeWeight, writeWeight, cancelWeight, tickWeight};
+ghost use Rattle.measure.specs.Weights.{aboutWeight, takeWeight, writeWeight, cancelWeight, tickWeight, restoreWeight};
 ghost use Rattle.measure.specs.MeasuredCalls.{measured, measuredBy};
 ghost use Rattle.port.specs.PortContracts.{aboutOf, takenOf, cancelOf};
 ghost use Rattle.frame.specs.FrameContracts.{writtenOf};
+ghost use Rattle.restore.specs.RestoreContracts.{restoredOf};
 use frame::Written;
 use port::answer::About;
 use port::answer::Taken;
 use port::waiting::Cancelled;
 use report::Device;
 use report::FeatureIndex;
+use restore::Restored;
 use station::Station;
 
 // The head of a call: its kind, the number of bytes that it lends, the device, byte 2, byte 3, the ticks, and two bytes that
@@ -29,6 +31,15 @@ const REQUEST: u8 = 1;
 const CANCEL: u8 = 2;
 
 const TICK: u8 = 3;
+
+const STORE: u8 = 5;
+
+const RESTORE: u8 = 6;
+
+// What a store that is read adds, and what the number of a line that breaks the rules is multiplied by.
+const RESTORED: u64 = 8000;
+
+const LINE: u64 = 100;
 
 fn about_weight(base: u16, a: About) -> u64
     ensures { λ r. ⌜ r ≡ aboutWeight base (aboutOf a) ⌝ }
@@ -105,11 +116,21 @@ fn tick_weight(ended: [u8; port::PORTS]) -> u64
         + wide(ended[6])
 }
 
-// Makes every whole call on a fresh station, each request and listing at the front of the buffer, and adds up
-// what they answer.
+fn restore_weight(answer: Restored) -> u64
+    ensures { λ r. ⌜ r ≡ restoreWeight (restoredOf answer) ⌝ }
+{
+    match answer {
+        Restored::Done => RESTORED,
+        Restored::Refused(refusal) => refusal.number() as u64,
+        Restored::RefusedAt(refusal, line) => (refusal.number() as u64) + LINE * (line as u64),
+    }
+}
+
+// Makes every whole call on a fresh station, each request, listing and store at the front of the buffer, and adds up
+// what they answer. A restore reads the whole text.
 #[no_mangle]
-pub extern "C" fn blotterfinch_measure(calls: &[u8], buffer: &mut [u8]) -> u64
-    ensures by_rules { λ r. ⌜ measuredBy r (now (buffer .exit)) ≡ measured (now (calls .entry)) (now (buffer .entry)) ⌝ }
+pub extern "C" fn blotterfinch_measure(calls: &[u8], text: &[u8], buffer: &mut [u8]) -> u64
+    ensures by_rules { λ r. ⌜ measuredBy r (now (buffer .exit)) ≡ measured (now (calls .entry)) (now (text .entry)) (now (buffer .entry)) ⌝ }
 {
     let turns = calls.len() / CALL;
     let mut s = Station::new();
@@ -164,6 +185,18 @@ pub extern "C" fn blotterfinch_measure(calls: &[u8], buffer: &mut [u8]) -> u64
                 s = next;
                 let ended = t.ended;
                 sum = std::num::wrapping_add_u64(sum, tick_weight(ended));
+                continue;
+            }
+            STORE => {
+                sum = std::num::wrapping_add_u64(sum, write_weight(s.store(buffer, 0)));
+                continue;
+            }
+            RESTORE => {
+                let r = s.restore(text);
+                let next = r.station;
+                s = next;
+                let answer = r.answer;
+                sum = std::num::wrapping_add_u64(sum, restore_weight(answer));
                 continue;
             }
             _ => {

@@ -3,6 +3,9 @@ use borrow.Author.Needs.{needs}
 use Rattle.measure.proofs.take_weight.Statement.{statement}
 use Rattle.measure.proofs.take_weight.Tie as tie
 
+returns : tie.Need-returns
+returns c = simp (c .before .before .answer .given .1, c .number .ensures)
+
 returns-2 : tie.Need-returns-2
 returns-2 c = simp (c .before .before .answer2 .given .1, c .about-weight .ensures)
 
@@ -53,7 +56,7 @@ take-weight-spec =
     (λ c. search needs)
     (λ c. search needs)
     (λ c. search needs)
-    (λ c. search needs)
+    returns
     returns-2
     returns-3
     returns-4
