@@ -44,9 +44,9 @@ refusedBroken n ports = record { answer = refusedAt refusals.brokenLine n; ports
 
 -- the reader and the writer, for every text and all ports
 pub record StoresKept : Type 0 where
-  pub read-back : (ports : List Port) → Storable ports → readStore (storeText ports) ≡ storeOf (map kept ports)
-  pub paired-kept : (p : Port) → p .paired ≡ true → ReadBack p (kept p)
-  pub unpaired-fresh : (p : Port) → p .paired ≡ false → kept p ≡ freshPort
+  pub read-back : (ports : List Port) → Storable ports → readStore (storeText ports) ≡ storeOf (map storedOf ports)
+  pub paired-kept : (p : Port) → p .paired ≡ true → ReadBack p (storedOf p)
+  pub unpaired-fresh : (p : Port) → p .paired ≡ false → storedOf p ≡ freshPort
   -- accepted are exactly the texts that are written
   pub written : (text : List ℕ) → IsStore text ↔ ((ports : List Port) × (Storable ports × (text ≡ storeText ports)))
   pub written-back : (text : List ℕ) (ports : List Port) → Store text ports → storeText ports ≡ text
