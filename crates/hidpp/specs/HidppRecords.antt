@@ -10,14 +10,11 @@ use Rattle.port.specs.declared.FirstParameters.{FirstParameters}
 use Rattle.report.specs.declared.FeatureIndex.{FeatureIndex}
 use Rattle.port.specs.declared.Version.the-variants as versions
 use Rattle.port.specs.declared.Battery.the-variants as batteries
-use Rattle.port.specs.Records.{featureCount, batteryStatus, wirelessStatus, slotOf, featureAt, withVersion, withBattery, withFeatures, withLink}
+use Rattle.port.specs.Records.{featureCount, maxIndex, batteryStatus, wirelessStatus, slotOf, featureAt, withVersion, withBattery, withFeatures, withLink}
 use Rattle.port.specs.Answers.{error1}
 use Rattle.hidpp.specs.declared.Message.{Message}
 
--- the largest feature index, and the largest level
-abbrev pub maxIndex : ℕ
-maxIndex = 63
-
+-- the largest level
 abbrev pub maxLevel : ℕ
 maxLevel = 100
 

@@ -49,8 +49,6 @@ const BATTERY_STATUS: u16 = 0x1000;
 
 const WIRELESS_STATUS: u16 = 0x1d4b;
 
-const MAX_INDEX: u8 = 63;
-
 const MAX_LEVEL: u8 = 100;
 
 // The parameter with this number, counted from 0.
@@ -126,7 +124,7 @@ fn is_get_feature(byte2: FeatureIndex, byte3: u8) -> bool
 fn as_index(index: u8) -> FeatureIndex
     ensures { λ r. ⌜ r ≡ indexFrom index ⌝ }
 {
-    if index <= MAX_INDEX {
+    if index <= port::MAX_INDEX {
         return FeatureIndex(index);
     }
     FeatureIndex(0)

@@ -8,14 +8,14 @@ use lib.Dec.{ltb}
 use lib.ListN.{length}
 use Rattle.report.specs.declared.FeatureIndex.{FeatureIndex}
 use Rattle.port.specs.declared.Port.{Port}
-use Rattle.port.specs.Records.{featureCount}
+use Rattle.port.specs.Records.{maxIndex, featureCount}
 use Rattle.text.specs.Words.{newline, hex, decimal, isDigit}
 use Rattle.text.specs.Texts.{tab, tabbed, digits16, digits32, versionText, serialText}
 use Rattle.scan.specs.Scans.{Scan, missing, found, thenScan}
 use Rattle.scan.specs.ScansLaws.{not-missing, same-value, same-rest}
 use Rattle.scan.specs.Exact.{Reads, SerialFits, VersionFits}
 use Rattle.scan.specs.ExactLaws.{decimal-read, hex-read, serial-read, version-read, pair-read, word-read}
-use Rattle.store.specs.Stores.{indexFields, padLine, padPort, storedOf, indexLast, IndexesFit, PadFits, StoredDevice}
+use Rattle.store.specs.Stores.{indexFields, padLine, padPort, storedOf, IndexesFit, PadFits, StoredDevice}
 use Rattle.restore.specs.Restoring.{stopAfter, withIndex, indexesScan, Pad, padScan, portOf, deviceScan}
 
 -- a value made of the one that is read
@@ -57,7 +57,7 @@ more-text position (index ∷ features) n =
     ∙ ap (λ (k : ℕ). (decimal (index .0) ++ (stopAfter position ∷ [])) ++ (indexesText (suc position) features ++ (decimal n ++ (stopAfter k ∷ [])))) e
     ∙ ap (λ (l : List ℕ). (decimal (index .0) ++ (stopAfter position ∷ [])) ++ l) (more-text (suc position) features n)
 
-more-fits : (count n : ℕ) (features : List FeatureIndex) → SomeIndexes count features → n ≤ indexLast → SomeIndexes (suc count) (features ++ (record { 0 = n } ∷ []))
+more-fits : (count n : ℕ) (features : List FeatureIndex) → SomeIndexes count features → n ≤ maxIndex → SomeIndexes (suc count) (features ++ (record { 0 = n } ∷ []))
 unfolding IndexesFit
 more-fits zero n [] h small = (refl, (small, tt))
 more-fits (suc count) n [] h small = absurd (omega (arith, h .0))
@@ -71,7 +71,7 @@ record Last (count : ℕ) (features : List FeatureIndex) : Type 0 where
   first : List FeatureIndex
   last : ℕ
   fits : SomeIndexes count first
-  small : last ≤ indexLast
+  small : last ≤ maxIndex
   so : first ++ (record { 0 = last } ∷ []) ≡ features
 
 last-of : (count : ℕ) (features : List FeatureIndex) → SomeIndexes (suc count) features → Last count features
@@ -111,7 +111,7 @@ indexes-read zero =
       complete = λ a h rest. let is : [] ≡ a = none-there 0 a (h .0) in subst (λ (l : List FeatureIndex). found [] (indexesText 0 l ++ rest) ≡ found l rest) is refl;
     }
 indexes-read (suc count) =
-    mapped-read withIndex (pair-read (indexes-read count) (decimal-read indexLast (stopAfter count) (no-digit count)))
+    mapped-read withIndex (pair-read (indexes-read count) (decimal-read maxIndex (stopAfter count) (no-digit count)))
     (λ p h. (more-fits count (p .1) (p .0) (h .0) (h .1), same p (h .0 .0)))
     (λ features h. let l = last-of count features h in ((l .first, l .last), ((l .fits, l .small), l .so)))
   where

@@ -57,3 +57,5 @@ pub record StoresKept : Type 0 where
   pub refuses-broken : (ports : List Port) (text : List ℕ) (n : ℕ) → (restorePorts ports text ≡ refusedBroken n ports) ↔ BrokenAt text n
   pub one-of : (text : List ℕ) → OneOf text
   pub lines : (text : List ℕ) (n : ℕ) → BrokenAt text n → (1 ≤ n) × (n ≤ 8)
+  -- no store is shorter or longer
+  pub sizes : (text : List ℕ) (ports : List Port) → Store text ports → (7 ≤ length text) × (length text ≤ 295)

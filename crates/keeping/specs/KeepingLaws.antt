@@ -14,6 +14,7 @@ use Rattle.text.specs.Texts.{pairedText}
 use Rattle.store.specs.Stores.{edition, editionLine, padLine, storeText, padPort, storedOf, PadFits, StoredDevice, AllStored, Store}
 use Rattle.restore.specs.Restoring.{StoreRead, storeOf, ofOther, brokenAt, readStore, RestoreAnswer, restored, refused, refusedAt, Restoring, restoredBy, restorePorts}
 use Rattle.keeping.specs.Lines.{OtherEdition, BrokenAt}
+use Rattle.keeping.specs.StoreSizesLaws.{sizes}
 use Rattle.keeping.specs.ReadingLaws.{linesFrom, fresh-stored, paired-line, no-line, store-lines, reads-exactly, other-exactly}
 use Rattle.keeping.specs.LinesLaws.{broken-exactly, line-bounds, one-of}
 use Rattle.keeping.specs.Keeping.{Storable, ReadBack, accepted, refusedOther, refusedBroken, StoresKept}
@@ -216,4 +217,5 @@ keeping =
       refuses-broken = refuses-broken;
       one-of = one-of;
       lines = λ text n b. line-bounds text n (broken-exactly text n .1 b);
+      sizes = sizes;
     }

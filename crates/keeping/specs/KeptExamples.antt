@@ -5,7 +5,7 @@ use mathlib.Core.Logic.{_⊎_, inl, inr}
 use mathlib.Core.Bool.{true, false, false≢true}
 use mathlib.Core.List.{List, [], _∷_, _++_}
 use native.Mathlib.Omega.{arith}
-use lib.ListN.{getD, replicate}
+use lib.ListN.{length, getD, replicate}
 use Rattle.report.specs.Ports.{deviceCount}
 use Rattle.port.specs.declared.Port.{Port}
 use Rattle.port.specs.declared.Version.the-variants as versions
@@ -173,3 +173,7 @@ module _ (k : StoresKept) where
 
   no-line-9 : (text : List ℕ) → ¬ BrokenAt text 9
   no-line-9 text b = omega (arith, k .lines text 9 b .1)
+
+  -- 295 bytes are enough for every store
+  no-longer : (text : List ℕ) (ports : List Port) → Store text ports → length text < 296
+  no-longer text ports s = omega (arith, k .sizes text ports s .1)

@@ -2,6 +2,7 @@ pub mod DeviceLaws
 pub mod Lines
 pub mod ReadingLaws
 pub mod LinesLaws
+pub mod StoreSizesLaws
 pub mod Keeping
 pub mod KeepingLaws
 pub mod KeepingExamples

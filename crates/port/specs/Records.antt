@@ -40,6 +40,10 @@ knownFeatures = featureSet ∷ deviceInformation ∷ deviceName ∷ batteryStatu
 abbrev pub featureCount : ℕ
 featureCount = 5
 
+-- the largest feature index that is kept
+abbrev pub maxIndex : ℕ
+maxIndex = 63
+
 -- where a feature is in a list; the length of the list where it is not there
 abbrev pub slotIn : List ℕ → ℕ → ℕ
 slotIn [] feature = 0

@@ -17,6 +17,9 @@ pub const PLACES: usize = 4;
 // Known features.
 pub const FEATURES: usize = 5;
 
+// The largest feature index that is kept.
+pub const MAX_INDEX: u8 = 63;
+
 // Ports of a station: the devices, and the receiver.
 pub const PORTS: usize = report::DEVICES as usize + 1;
 

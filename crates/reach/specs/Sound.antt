@@ -10,9 +10,8 @@ use Rattle.port.specs.declared.Port.{Port}
 use Rattle.port.specs.declared.Request.{Request}
 use Rattle.port.specs.declared.Serial.{Serial}
 use Rattle.port.specs.declared.Serial.the-variants.{Unknown}
-use Rattle.port.specs.Records.{placeCount, featureCount, emptyPlace, requestIn, featureAt}
+use Rattle.port.specs.Records.{placeCount, featureCount, maxIndex, emptyPlace, requestIn, featureAt}
 use Rattle.port.specs.Places.{isEmpty, matches}
-use Rattle.hidpp.specs.HidppRecords.{maxIndex}
 use Rattle.request.specs.Requesting.{maxTicks}
 use Rattle.station.specs.declared.Station.{Station}
 use Rattle.station.specs.Stations.{portCount, receiverPosition, portAt}

@@ -9,9 +9,8 @@ use lib.ListN.{length, getD, getD-replicate}
 use lib.Dec.{lit≤}
 use Rattle.report.specs.declared.FeatureIndex.{FeatureIndex}
 use Rattle.port.specs.declared.Port.{Port}
-use Rattle.port.specs.Records.{freshPort, featureAt}
+use Rattle.port.specs.Records.{maxIndex, freshPort, featureAt}
 use Rattle.store.specs.Stores.{padPort, IndexesFit, StoredDevice, AllStored}
-use Rattle.hidpp.specs.HidppRecords.{maxIndex}
 use Rattle.keeping.specs.ReadingLaws.{reads-exactly, fresh-stored, unpaired-fresh}
 use Rattle.keeping.specs.KeepingLaws.{kept-paired}
 use Rattle.station.specs.declared.Station.{Station}

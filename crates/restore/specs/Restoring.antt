@@ -9,11 +9,11 @@ use Rattle.report.specs.declared.FeatureIndex.{FeatureIndex}
 use Rattle.port.specs.declared.Port.{Port}
 use Rattle.port.specs.declared.Version.{Version}
 use Rattle.port.specs.declared.Serial.{Serial}
-use Rattle.port.specs.Records.{featureCount, freshPort}
+use Rattle.port.specs.Records.{maxIndex, featureCount, freshPort}
 use Rattle.text.specs.Words.{ascii, newline, decimal}
 use Rattle.text.specs.Texts.{tab, digits16, digits32}
 use Rattle.scan.specs.Scans.{Scan, missing, found, thenScan, pairScan, wordScan, numberScan, decimalScan, hexScan, serialScan, versionScan}
-use Rattle.store.specs.Stores.{edition, padPort, indexLast}
+use Rattle.store.specs.Stores.{edition, padPort}
 
 -- the byte after the index at a position: a tab, and after the last a newline
 abbrev pub stopAfter : (position : ℕ) → ℕ
@@ -26,7 +26,7 @@ withIndex p = p .0 ++ (record { 0 = p .1 } ∷ [])
 unfoldable pub indexesScan : (count : ℕ) → List ℕ → Scan (List FeatureIndex)
 indexesScan zero text = found [] text
 indexesScan (suc count) text =
-    thenScan (pairScan (indexesScan count) (decimalScan indexLast (stopAfter count)) text) λ p rest.
+    thenScan (pairScan (indexesScan count) (decimalScan maxIndex (stopAfter count)) text) λ p rest.
     found (withIndex p) rest
 
 -- what follows the port in a line: WPID, serial, bitfield, version and indexes

@@ -15,7 +15,7 @@ use Rattle.report.specs.declared.FeatureIndex.{FeatureIndex}
 use Rattle.port.specs.declared.Port.{Port}
 use Rattle.port.specs.declared.Version.{Version}
 use Rattle.port.specs.declared.Serial.{Serial}
-use Rattle.port.specs.Records.{featureCount, freshPort}
+use Rattle.port.specs.Records.{maxIndex, featureCount, freshPort}
 use Rattle.text.specs.Words.{ascii, newline, decimal}
 use Rattle.text.specs.WordsLaws.{decimal-last}
 use Rattle.text.specs.Texts.{tab, digits16, digits32}
@@ -23,7 +23,7 @@ use Rattle.scan.specs.Scans.{Scan, missing, found, thenScan, pairScan, wordScan
 use Rattle.scan.specs.ScanContracts.{scanned, Scans, capped, cappedScan}
 use Rattle.scan.specs.ScansLaws.{not-missing, same-value, same-rest, front, value-found, mapped, pair-scanned, capped-is, capped-small}
 use Rattle.scan.specs.ExactLaws.{low-digit}
-use Rattle.store.specs.Stores.{edition, padPort, indexLast}
+use Rattle.store.specs.Stores.{edition, padPort}
 use Rattle.restore.specs.Restoring.{stopAfter, withIndex, indexesScan, Pad, padScan, portOf, deviceScan, StoreRead, storeOf, ofOther, brokenAt, withFirst, Row, rowBy, rowIn, devicesIn, editionScan, byEdition, readStore, Restoring, restored, refused, refusedAt, restoredBy, restorePorts}
 use Rattle.restore.specs.RestoreContracts.{Rows}
 
@@ -40,10 +40,10 @@ module _ (text : List ℕ) (at : ℕ) where
       record { all = all; within = omega arith; so = value-found (indexesScan 0) text at [] at refl }
 
   module _ {features : List FeatureIndex} {f : Bool} {next i : ℕ} (s : Indexed text at features f next i) where
-    pub index-read : {g : Bool} {v n stop : ℕ} → i < featureCount → stop ≡ stopAfter i → Scans (decimalScan indexLast stop) text next g v n → Indexed text at (set features i (record { 0 = v })) g n (i + 1)
+    pub index-read : {g : Bool} {v n stop : ℕ} → i < featureCount → stop ≡ stopAfter i → Scans (decimalScan maxIndex stop) text next g v n → Indexed text at (set features i (record { 0 = v })) g n (i + 1)
     unfolding indexesScan decimalScan numberScan
     index-read {g} {v} {n} {stop} h e r =
-        let q : Scans (decimalScan indexLast (stopAfter i)) text next g v n = subst (λ (k : ℕ). Scans (decimalScan indexLast k) text next g v n) e r in
+        let q : Scans (decimalScan maxIndex (stopAfter i)) text next g v n = subst (λ (k : ℕ). Scans (decimalScan maxIndex k) text next g v n) e r in
         let both : Scans (indexesScan (suc i)) text at g (take i features ++ (record { 0 = v } ∷ [])) n = mapped withIndex (pair-scanned refl (s .so) q) in
         let value : take i features ++ (record { 0 = v } ∷ []) ≡ take (suc i) (set features i (record { 0 = v })) = sym (take-suc-set features i (record { 0 = v }) (omega (arith, s .all))) in
         record {

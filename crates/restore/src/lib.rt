@@ -17,8 +17,6 @@ use report::Refusal;
 // Devices 1 to 6 have positions 0 to 5 among the ports; the receiver comes last.
 const DEVICES: usize = report::DEVICES as usize;
 
-const INDEX_LAST: u8 = 63;
-
 // The edition that is read.
 const EDITION: u32 = 1;
 
@@ -76,7 +74,7 @@ fn scan_indexes(text: &[u8], at: usize) -> IndexesField
     let mut next = at;
     let mut i = 0;
     while i < port::FEATURES {
-        let index = scan::scan_decimal(text, next, INDEX_LAST, stop_after(i));
+        let index = scan::scan_decimal(text, next, port::MAX_INDEX, stop_after(i));
         features[i] = FeatureIndex(index.value as u8);
         found = index.found;
         next = index.next;

@@ -11,7 +11,7 @@ use Rattle.port.specs.declared.Port.{Port}
 use Rattle.port.specs.declared.Version.{Version}
 use Rattle.port.specs.declared.Serial.{Serial}
 use Rattle.port.specs.declared.Battery.the-variants as batteries
-use Rattle.port.specs.Records.{placeCount, featureCount, emptyPlace, freshPort}
+use Rattle.port.specs.Records.{placeCount, featureCount, maxIndex, emptyPlace, freshPort}
 use Rattle.text.specs.Words.{ascii, hex, decimal}
 use Rattle.text.specs.Texts.{tab, tabbed, pairedLines, digits16, digits32, byteMost, versionText, versionMost, serialText, serialMost}
 use Rattle.scan.specs.Exact.{SerialFits, VersionFits}
@@ -79,14 +79,10 @@ unfoldable pub storedOf : Port → Port
 storedOf p =
     cond (p .paired) (padPort (p .wpid) (p .serial) (p .reports) (p .version) (p .features)) freshPort
 
--- the largest feature index
-abbrev pub indexLast : ℕ
-indexLast = 63
-
 -- each index is at most 63
 unfoldable pub IndexesFit : List FeatureIndex → Type 0
 IndexesFit [] = Unit
-IndexesFit (index ∷ features) = (index .0 ≤ indexLast) × IndexesFit features
+IndexesFit (index ∷ features) = (index .0 ≤ maxIndex) × IndexesFit features
 
 -- what a store can say of a device: numbers as wide as their fields, and an index for each known feature
 pub record PadFits (p : Port) : Type 0 where

@@ -14,7 +14,7 @@ use Rattle.report.specs.Sizes.{byte}
 use Rattle.report.specs.Reading.{Report}
 use Rattle.port.specs.declared.Port.{Port}
 use Rattle.port.specs.declared.Request.{Request}
-use Rattle.port.specs.Records.{featureCount, batteryStatus, wirelessStatus, slotOf, featureAt, freshPort, madeFresh, requestIn, withVersion, withBattery, withFeatures, withLink, withPlaces, withPairing, withSerial, withReports}
+use Rattle.port.specs.Records.{maxIndex, featureCount, batteryStatus, wirelessStatus, slotOf, featureAt, freshPort, madeFresh, requestIn, withVersion, withBattery, withFeatures, withLink, withPlaces, withPairing, withSerial, withReports}
 use Rattle.port.specs.Waiting as waiting
 use Rattle.port.specs.Waiting.{endedAt}
 use Rattle.port.specs.Answers.{Result}
@@ -180,7 +180,7 @@ wide-run st (c ∷ cs) k w b =
     wide-run (step st c .station) cs (next-reached st k c) (case-wide st k w (b .0) (step-case st (all-placed k) c)) (b .1)
 
 -- indexes, slot by slot
-indexes-fit : (features : List FeatureIndex) → ((slot : ℕ) → featureAt features slot ≤ 63) → IndexesFit features
+indexes-fit : (features : List FeatureIndex) → ((slot : ℕ) → featureAt features slot ≤ maxIndex) → IndexesFit features
 unfolding IndexesFit
 indexes-fit [] h = tt
 indexes-fit (index ∷ features) h = (h 0, indexes-fit features (λ slot. h (suc slot)))
