@@ -9,6 +9,10 @@ use denote.Ref.{RefT, now}
 use Rattle.report.specs.Ports.{isDevice, isPort}
 use Rattle.report.specs.Sizes.{byte, hidppStart}
 use Rattle.report.specs.Reading.{reportFrom, readRule}
+use Rattle.frame.specs.declared.Written.{Written}
+use Rattle.frame.specs.Writing.{WriteOutcome, wrote, fitsAt, pasted}
+use Rattle.frame.specs.FrameContracts.{writtenOutcome}
+use Rattle.restore.specs.Restoring.{restored}
 use Rattle.port.specs.Records.{emptyPlace, requestIn}
 use Rattle.port.specs.Places.{isEmpty}
 use Rattle.port.specs.Answers.{stray}
@@ -27,13 +31,13 @@ use Rattle.station.specs.StationContracts.{takeOutcome, restoreOutcome}
 use Rattle.station.specs.Stations.{portCount, positionOf, portFor}
 use Rattle.station.proofs.Station.new.Reads as new-reads
 use Rattle.sequence.specs.Starts.{Start}
-use Rattle.sequence.specs.Steps.{Call, take, restore, readOf, lentOf, ticked, Outcome, takeStep, restoreStep, begins, step, run, returned, labelOf}
+use Rattle.sequence.specs.Steps.{store, Call, take, write, restore, readOf, lentOf, ticked, restoring, Outcome, takeStep, writeStep, restoreStep, begins, step, run, returned, labelOf}
 use Rattle.sequence.specs.Targets.{all}
 use Rattle.sequence.specs.Sentence.{sentence}
 use Rattle.sequence.specs.Refused.{isRefusal}
 use Rattle.sequence.specs.Transcripts.{Entry, callsOf, transcript}
 use Rattle.sequence.specs.Remaining.{view, remaining, takenDrops, comparedOf, compared}
-use Rattle.sequence.specs.Stays.{Stays, ComparesOwn, ComparesReceiver, ComparesDrops}
+use Rattle.sequence.specs.Stays.{Stays, ComparesOwn, ComparesReceiver, ComparesDrops, ComparesRead}
 use Rattle.sequence.specs.Histories.{Ensured, Made, callOf, History, stationAfter, made}
 use Rattle.sequence.specs.Sequences.{Unread, Sequences}
 use Rattle.widths.specs.Widths.{AllRead}
@@ -83,6 +87,8 @@ pub record Demands : Type 0 where
   pub stores : (st : Station) (text : List ℕ) (r : RestoreResult) → Ensured st (restore text) (restoreStep text (restoreOutcome r)) → (ports : List Port) → (restoreOutcome r ≡ restoredTo (accepted ports)) ↔ Store text ports
   pub other-editions : (st : Station) (text : List ℕ) (r : RestoreResult) → Ensured st (restore text) (restoreStep text (restoreOutcome r)) → (restoreOutcome r ≡ restoredTo (refusedOther (st .ports))) ↔ OtherEdition text
   pub broken-lines : (st : Station) (text : List ℕ) (r : RestoreResult) → Ensured st (restore text) (restoreStep text (restoreOutcome r)) → (line : ℕ) → (restoreOutcome r ≡ restoredTo (refusedBroken line (st .ports))) ↔ BrokenAt text line
+  -- It is written whole at its offset where it fits, and the bytes before and after it keep their values; where it does not, the table of refusals has 10
+  pub writes : (st : Station) (offset : ℕ) (lent : List ℕ) (r : Written) (after : List ℕ) → Ensured st (write store offset lent) (writeStep st (writtenOutcome r after)) → fitsAt (length (storeText (st .ports))) offset (length lent) ≡ true → _≡_ {A = WriteOutcome} (writtenOutcome r after) (record { answer = wrote (length (storeText (st .ports))); lent = pasted (storeText (st .ports)) offset lent })
   -- Reading what was written after any history whose reports and texts are bytes, on any station, gives back what a store keeps of every port
   pub read-back : (st : Station) → Start st → (ms : List Made) → History st ms → AllRead (map callOf ms) → (other : Station) (r : RestoreResult) → Ensured other (restore (storeText (stationAfter st ms .ports))) (restoreStep (storeText (stationAfter st ms .ports)) (restoreOutcome r)) → restoreOutcome r ≡ restoredTo (accepted (map storedOf (stationAfter st ms .ports)))
   -- Records change only as documents 01 and 02 list: of every port, by every call, a field that is not listed stays. An accepted read gives every port anew, and so of it neither this nor the next is said
@@ -92,6 +98,8 @@ pub record Demands : Type 0 where
   -- Demand 3, for every history: calls that the program made, in any order, with any arguments and any lent bytes, refused ones included; the first on a start, which a new station and one that a store restores are, each later one on the station that the call before it handed back or left
   pub starts : (r : Station) → new-reads.Learnt tt tt r tt → Start r
   pub restarts : (st : Station) (c : Call) (o : Outcome) → Ensured st c o → begins c ≡ true → Start (o .station)
+  -- A call begins a new sequence exactly where it answers that it restored the station
+  pub begun : (st : Station) (c : Call) (o : Outcome) → Ensured st c o → (begins c ≡ true) ↔ (o .answer ≡ restoring restored)
   -- With any number of accepted and refused reads in it: it is one sequence, or one, an accepted read, and what follows on the start that it gives
   pub sequences : (st : Station) → Start st → (ms : List Made) → History st ms → Sequences st ms
   pub reached : (st : Station) → Start st → (ms : List Made) → History st ms → Reached (stationAfter st ms)
@@ -107,10 +115,11 @@ pub record Demands : Type 0 where
   pub holds : (n : ℕ) → isPort n ≡ true → (st : Station) → Start st → (ms ns : List Made) → History st ms → History st ns → map callOf ns ≡ callsOf (remaining n (made st ms)) → view n (stationAfter st ms) ≡ view n (stationAfter st ns)
   -- Each call that remains gives the same answer and leaves the same lent bytes; of a tick's answer, that port's count is compared, and of a call for 255, where a device is compared, that device's drop count; where 255 is compared, the drop count is left out
   pub returns : (n : ℕ) → isPort n ≡ true → (st : Station) → Start st → (ms ns : List Made) → History st ms → History st ns → map callOf ns ≡ callsOf (remaining n (made st ms)) → compared n (remaining n (made st ms)) ≡ compared n (made st ns)
-  -- What is compared: of a device's own call its answer and all lent bytes, of 255's all but the drop count, of a call for 255 for a device its drop count and all lent bytes, of a tick that port's count
+  -- What is compared: of a device's own call its answer and all lent bytes, of 255's all but the drop count, of a call for 255 for a device its drop count and all lent bytes, of an accepted read its answer and all lent bytes, of a tick that port's count
   pub compares-own : ComparesOwn
   pub compares-receiver : ComparesReceiver
   pub compares-drops : ComparesDrops
+  pub compares-read : ComparesRead
   pub compares-count : (n : ℕ) (o q : Outcome) (xs ys : List ℕ) → o .answer ≡ ticked xs → q .answer ≡ ticked ys → comparedOf n all (returned o) ≡ comparedOf n all (returned q) → getD xs (positionOf n) 0 ≡ getD ys (positionOf n) 0
   -- So any two orders that keep, for each device, its own calls, the ticks, the calls for 255 and the accepted reads in one sequence end in the same station
   pub orders : (st : Station) → Start st → (ms ns : List Made) → History st ms → History st ns → ((n : ℕ) → isDevice n ≡ true → callsOf (remaining n (made st ms)) ≡ callsOf (remaining n (made st ns))) → stationAfter st ms ≡ stationAfter st ns

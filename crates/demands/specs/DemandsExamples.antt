@@ -11,7 +11,7 @@ use Rattle.report.specs.Ports.{isDevice, isPort}
 use Rattle.report.specs.Sizes.{byte, hidppStart, lengthOf}
 use Rattle.report.specs.Reading as reading
 use Rattle.report.specs.Reading.{Read, reportFrom, hidppRule, familyRule, readRule}
-use Rattle.frame.specs.Writing.{requestFrameRule, switchRule, getPairedRule, ledRule}
+use Rattle.frame.specs.Writing.{requestFrameRule, switchRule, getPairedRule, ledRule, WriteOutcome, fitsAt}
 use Rattle.mouse.specs.Movement.{mouseRule}
 use Rattle.frame.specs.declared.Written.{Written}
 use Rattle.frame.specs.FrameContracts.{writtenOf, writtenOutcome}
@@ -48,14 +48,14 @@ use Rattle.station.specs.StationContracts.{takeOutcome, requestOutcome, cancelO
 use Rattle.station.specs.declared.RestoreResult.{RestoreResult}
 use Rattle.station.specs.StationCalls.{RestoreOutcome, restoredTo}
 use Rattle.store.specs.Stores.{storeText, storedOf, Store}
-use Rattle.restore.specs.Restoring.{refused, refusedAt}
+use Rattle.restore.specs.Restoring.{restored, refused, refusedAt}
 use Rattle.restore.specs.RestoreContracts.{restoredOf}
 use Rattle.keeping.specs.Lines.{IsStore, OtherEdition, BrokenAt}
 use Rattle.keeping.specs.Keeping.{accepted, refusedOther, refusedBroken}
 use Rattle.station.specs.Stations.{portCount, positionOf, portFor}
 use Rattle.station.proofs.Station.new.Reads as new-reads
 use Rattle.sequence.specs.Starts.{Start}
-use Rattle.sequence.specs.Steps.{led, Call, take, request, cancel, tick, write, restore, taken, written, ticked, Outcome, takeStep, requestStep, cancelStep, tickStep, writeStep, restoreStep, begins, step, run, Returned, returned, labelOf}
+use Rattle.sequence.specs.Steps.{led, store, Call, take, request, cancel, tick, write, restore, taken, written, ticked, restoring, Outcome, takeStep, requestStep, cancelStep, tickStep, writeStep, restoreStep, begins, step, run, Returned, returned, labelOf}
 use Rattle.sequence.specs.Sequences.{Unread, Sequences}
 use Rattle.widths.specs.Widths.{AllRead}
 use Rattle.written.specs.Written.{WrittenBy}
@@ -364,9 +364,21 @@ module _ (d : Demands) where
     only-that-line : (line : ℕ) → restoreOutcome r ≡ restoredTo (refusedBroken line (st .ports)) → BrokenAt text line
     only-that-line line = d .broken-lines st text r e line .0
 
-  -- a restart: pad 2 has its model back, whatever the calls before were
-  pad-2-back : (st : Station) → Start st → (ms : List Made) → History st ms → AllRead (map callOf ms) → (other : Station) (r : RestoreResult) → Ensured other (restore (storeText (stationAfter st ms .ports))) (restoreStep (storeText (stationAfter st ms .ports)) (restoreOutcome r)) → r .station .ports ≡ map storedOf (stationAfter st ms .ports)
-  pad-2-back st begun ms k bytes other r e =
+  -- a store that is written leaves the byte before it
+  before-kept : (st : Station) (byte : ℕ) (lent : List ℕ) (r : Written) (after : List ℕ) → Ensured st (write store 1 (byte ∷ lent)) (writeStep st (writtenOutcome r after)) → fitsAt (length (storeText (st .ports))) 1 (length (byte ∷ lent)) ≡ true → getD after 0 0 ≡ byte
+  before-kept st byte lent r after e fits =
+      ap (λ (o : WriteOutcome). getD (o .lent) 0 0) (d .writes st 1 (byte ∷ lent) r after e fits)
+
+  -- a read that is answered as restored begins a sequence, and no other call does
+  restored-begins : (st : Station) (c : Call) (o : Outcome) → Ensured st c o → o .answer ≡ restoring restored → begins c ≡ true
+  restored-begins st c o e = d .begun st c o e .1
+
+  begun-restored : (st : Station) (c : Call) (o : Outcome) → Ensured st c o → begins c ≡ true → o .answer ≡ restoring restored
+  begun-restored st c o e = d .begun st c o e .0
+
+  -- a restart: the pads are back, whatever the calls before were
+  pads-back : (st : Station) → Start st → (ms : List Made) → History st ms → AllRead (map callOf ms) → (other : Station) (r : RestoreResult) → Ensured other (restore (storeText (stationAfter st ms .ports))) (restoreStep (storeText (stationAfter st ms .ports)) (restoreOutcome r)) → r .station .ports ≡ map storedOf (stationAfter st ms .ports)
+  pads-back st begun ms k bytes other r e =
       ap (λ (o : RestoreOutcome). o .station .ports) (d .read-back st begun ms k bytes other r e)
 
   -- of stores: one station, one text; and each text is that of a station that calls reach
@@ -444,6 +456,9 @@ module _ (d : Demands) where
 
   compared-drops : (r q : Returned) (x y : ℕ) → comparedOf 2 (one 255) r ≡ comparedOf 2 (one 255) q → Drops 2 r x → Drops 2 q y → (x ≡ y) × (r .lent ≡ q .lent)
   compared-drops r q x y e f g = let c = d .compares-drops 2 refl r q e in (c .0 x y f g, c .1 .1)
+
+  compared-read : (r q : Returned) → comparedOf 2 none r ≡ comparedOf 2 none q → (r .answer ≡ q .answer) × ((r .read ≡ q .read) × (r .lent ≡ q .lent))
+  compared-read = d .compares-read 2
 
   compared-count : (o q : Outcome) (xs ys : List ℕ) → o .answer ≡ ticked xs → q .answer ≡ ticked ys → comparedOf 255 all (returned o) ≡ comparedOf 255 all (returned q) → getD xs 6 0 ≡ getD ys 6 0
   unfolding positionOf

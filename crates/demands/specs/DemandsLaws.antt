@@ -1,13 +1,18 @@
 -- The three demands: the proof.
 use Prim.Native.Nat.{ℕ}
 use mathlib.Core.Path.{_≡_, sym, _∙_, ap, subst}
+use mathlib.Core.Logic.{_↔_}
 use mathlib.Core.Bool.{true}
+use lib.ListN.{length}
 use mathlib.Core.List.{List, map}
 use denote.Ref.{now}
+use Rattle.frame.specs.declared.Written.{Written}
+use Rattle.frame.specs.Writing.{WriteAnswer, WriteOutcome, wrote, fitsAt, pasted, frameAt}
+use Rattle.frame.specs.FrameContracts.{writtenOutcome}
 use Rattle.port.specs.Answers.{Answer}
 use Rattle.port.specs.PortContracts.{takenOf}
-use Rattle.store.specs.Stores.{storeText, storedOf}
-use Rattle.restore.specs.Restoring.{RestoreAnswer, StoreRead, Restoring, restoredBy, restorePorts}
+use Rattle.store.specs.Stores.{storeText, storedOf, storeRule}
+use Rattle.restore.specs.Restoring.{RestoreAnswer, StoreRead, Restoring, restoredBy, restorePorts, restored}
 use Rattle.keeping.specs.Keeping.{Storable, accepted}
 use Rattle.keeping.specs.KeepingLaws.{keeping}
 use Rattle.station.specs.declared.Station.{Station}
@@ -18,15 +23,15 @@ use Rattle.station.specs.StationContracts.{takeOutcome, restoreOutcome}
 use Rattle.station.specs.StationTaking.{takeRule}
 use Rattle.sequence.specs.Starts.{Start, fresh}
 use Rattle.sequence.specs.Steps as steps
-use Rattle.sequence.specs.Steps.{Call, take, restore, Outcome, takeStep, restoreStep, step, run}
+use Rattle.sequence.specs.Steps.{store, Call, take, write, restore, Outcome, takeStep, writeStep, restoreStep, begins, step, run}
 use Rattle.sequence.specs.Refused.{isRefusal, Unchanged}
 use Rattle.sequence.specs.Sentence.{sentence}
 use Rattle.sequence.specs.SentenceLaws.{by-answer}
 use Rattle.sequence.specs.Transcripts.{Entry, transcript}
 use Rattle.sequence.specs.Remaining.{view, count}
-use Rattle.sequence.specs.StartsLaws.{begun-start}
+use Rattle.sequence.specs.StartsLaws.{begun-start, begun-exactly}
 use Rattle.sequence.specs.SequencesLaws.{sequences}
-use Rattle.sequence.specs.StaysLaws.{left-in, begun-left-in, struck-out, compares-own, compares-receiver, compares-drops}
+use Rattle.sequence.specs.StaysLaws.{left-in, begun-left-in, struck-out, compares-own, compares-receiver, compares-drops, compares-read}
 use Rattle.sequence.specs.Histories.{Ensured, Made, callOf, History, stationAfter, made}
 use Rattle.sequence.specs.HistoriesLaws as histories
 use Rattle.widths.specs.Widths.{AllRead}
@@ -89,6 +94,17 @@ same-read e = ap (λ (o : RestoreOutcome). back o) e
     back : RestoreOutcome → Restoring
     back o = record { answer = o .answer; ports = o .station .ports }
 
+same-written : {a b : WriteAnswer} → steps.written a ≡ steps.written b → a ≡ b
+same-written e = cc
+
+-- a store by its contract, where it fits
+wrote-by : (st : Station) (offset : ℕ) (lent : List ℕ) (r : Written) (after : List ℕ) → Ensured st (write store offset lent) (writeStep st (writtenOutcome r after)) → fitsAt (length (storeText (st .ports))) offset (length lent) ≡ true → _≡_ {A = WriteOutcome} (writtenOutcome r after) (record { answer = wrote (length (storeText (st .ports))); lent = pasted (storeText (st .ports)) offset lent })
+unfolding step storeRule frameAt
+wrote-by st offset lent r after e fits =
+    let m = histories.met e in
+    let is : writtenOutcome r after ≡ frameAt (storeText (st .ports)) offset lent = λ i. record { answer = same-written (ap (λ (o : Outcome). o .answer) m) i; lent = ap (λ (o : Outcome). o .lent) m i } in
+    is ∙ simp fits
+
 came-back : (st : Station) → Start st → (ms : List Made) → History st ms → AllRead (map callOf ms) → (other : Station) (r : RestoreResult) → Ensured other (restore (storeText (stationAfter st ms .ports))) (restoreStep (storeText (stationAfter st ms .ports)) (restoreOutcome r)) → restoreOutcome r ≡ restoredTo (accepted (map storedOf (stationAfter st ms .ports)))
 unfolding restorePorts
 came-back st begun ms k bytes other r e =
@@ -115,11 +131,13 @@ demands =
       stores = λ st text r e ports. let m = read-by st text r e in let h = keeping .restores (st .ports) text ports in (λ z. h .0 (same-read (sym m ∙ z)), λ s. m ∙ ap restoredTo (h .1 s));
       other-editions = λ st text r e. let m = read-by st text r e in let h = keeping .refuses-other (st .ports) text in (λ z. h .0 (same-read (sym m ∙ z)), λ s. m ∙ ap restoredTo (h .1 s));
       broken-lines = λ st text r e line. let m = read-by st text r e in let h = keeping .refuses-broken (st .ports) text line in (λ z. h .0 (same-read (sym m ∙ z)), λ s. m ∙ ap restoredTo (h .1 s));
+      writes = λ st offset lent r after e fits. wrote-by st offset lent r after e fits;
       read-back = came-back;
       changes = λ st k c o e b n h. by-step (λ o. ChangesListed n c (o .answer) (view 255 st) (view n st) (view n (o .station))) e (complete .changes st k c b n h);
       counts = λ st k c o e b n h. by-step (λ o. EndsAt n c (o .answer) (view n st) (view n (o .station))) e (complete .ends st k c b n h);
       starts = λ r e. subst Start (sym e) fresh;
       restarts = λ st c o e b. by-step (λ o. Start (o .station)) e (begun-start c st b);
+      begun = λ st c o e. by-step (λ o. (begins c ≡ true) ↔ (o .answer ≡ steps.restoring restored)) e (begun-exactly c st);
       sequences = sequences;
       reached = λ st begun ms k. subst Reached (sym (histories.history st ms k .station)) (complete .reached st begun (map callOf ms));
       every-answer = λ st ms k. histories.history st ms k .entries;
@@ -133,6 +151,7 @@ demands =
       compares-own = compares-own;
       compares-receiver = compares-receiver;
       compares-drops = compares-drops;
+      compares-read = compares-read;
       compares-count = λ n o q xs ys a b e. let h = same-count e in cc (a, b, h);
       orders = histories.orders;
       cut = histories.cut;

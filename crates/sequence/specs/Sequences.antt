@@ -5,7 +5,7 @@ use mathlib.Core.List.{List, [], _∷_, _++_, map}
 use Rattle.station.specs.declared.Station.{Station}
 use Rattle.sequence.specs.Starts.{Start}
 use Rattle.sequence.specs.Steps.{Call, begins}
-use Rattle.sequence.specs.Histories.{Made, callOf, History}
+use Rattle.sequence.specs.Histories.{Ensured, Made, callOf, History, stationAfter}
 
 -- none of the calls is an accepted read
 unfoldable pub Unread : List Call → Type 0
@@ -18,7 +18,7 @@ pub record Sequence (st : Station) (ms : List Made) : Type 0 where
   pub history : History st ms
   pub unread : Unread (map callOf ms)
 
--- a history: one sequence, or one, an accepted read, and what follows from the station that it restores
+-- a history: one sequence, or one, an accepted read on the station at its end, and what follows on the station that the read restores
 pub data Sequences : Station → List Made → Type 0 where
   last : (st : Station) (ms : List Made) → Sequence st ms → Sequences st ms
-  next : (st : Station) (ms : List Made) (m : Made) (ns : List Made) → Sequence st ms → begins (m .call) ≡ true → Sequences (m .outcome .station) ns → Sequences st (ms ++ (m ∷ ns))
+  next : (st : Station) (ms : List Made) (m : Made) (ns : List Made) → Sequence st ms → Ensured (stationAfter st ms) (m .call) (m .outcome) → begins (m .call) ≡ true → Sequences (m .outcome .station) ns → Sequences st (ms ++ (m ∷ ns))

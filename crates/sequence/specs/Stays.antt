@@ -9,7 +9,7 @@ use Rattle.port.specs.Answers.{About, reply}
 use Rattle.station.specs.declared.Station.{Station}
 use Rattle.sequence.specs.Starts.{Start}
 use Rattle.sequence.specs.Steps.{Call, CallAnswer, taken, Returned, begins, run}
-use Rattle.sequence.specs.Targets.{Target, one, all}
+use Rattle.sequence.specs.Targets.{Target, none, one, all}
 use Rattle.sequence.specs.Transcripts.{Entry, transcript}
 use Rattle.sequence.specs.Remaining.{comparedOf}
 
@@ -43,6 +43,10 @@ ComparesOwn =
 abbrev pub ComparesReceiver : Type 0
 ComparesReceiver =
     (r q : Returned) → comparedOf 255 (one 255) r ≡ comparedOf 255 (one 255) q → SameButDrops (r .answer) (q .answer) × SameLent r q
+
+-- of an accepted read its answer and every lent byte
+abbrev pub ComparesRead : Type 0
+ComparesRead = (n : ℕ) (r q : Returned) → comparedOf n none r ≡ comparedOf n none q → (r .answer ≡ q .answer) × SameLent r q
 
 -- a device's drop count: that of a reply to a report whose first parameter is for the device, and 0 in every other answer
 pub data Drops (n : ℕ) (r : Returned) : ℕ → Type 0 where

@@ -17,7 +17,7 @@ use Rattle.sequence.specs.Targets.{Target, none, one, all, isFor}
 use Rattle.sequence.specs.Transcripts.{Entry, callsOf}
 use Rattle.sequence.specs.Remaining.{isLeft, remaining, withDropsIn, dropsIn, dropsFor, whole, drops, ownReturned}
 use Rattle.sequence.specs.IndependenceLaws.{orders}
-use Rattle.sequence.specs.Stays.{Stays, ownCall, tickCall, receiverCall, Kept, keptNone, keptCall, begunCall, struckCall, SameButDrops, sameAnswer, sameReply, Drops, ofReply, ofOther, ComparesOwn, ComparesReceiver, ComparesDrops, OrdersAgree}
+use Rattle.sequence.specs.Stays.{Stays, ownCall, tickCall, receiverCall, Kept, keptNone, keptCall, begunCall, struckCall, SameButDrops, sameAnswer, sameReply, Drops, ofReply, ofOther, ComparesOwn, ComparesReceiver, ComparesRead, ComparesDrops, OrdersAgree}
 
 -- exactly those calls stay
 or-true : (b : Bool) → (b || true) ≡ true
@@ -82,6 +82,11 @@ compares-own n d r q e =
     let is : eqb n n ≡ true = eq-eqb n n refl in
     let device : eqb n receiver ≡ false = ne-eqb n receiver (omega (arith, device-number n d .1)) in
     let same : r ≡ q = same-whole (simp (is, device) at e) in
+    (ap (λ (x : Returned). x .answer) same, (ap (λ (x : Returned). x .read) same, ap (λ (x : Returned). x .lent) same))
+
+pub compares-read : ComparesRead
+compares-read n r q e =
+    let same : r ≡ q = same-whole e in
     (ap (λ (x : Returned). x .answer) same, (ap (λ (x : Returned). x .read) same, ap (λ (x : Returned). x .lent) same))
 
 -- an answer is a reply, or has no drop count

@@ -4,7 +4,6 @@ use mathlib.Core.Path.{_≡_, refl, sym, _∙_, ap}
 use mathlib.Core.List.{List, [], _∷_}
 use native.Mathlib.Omega.{arith}
 use lib.ListN.{length, replicate}
-use Rattle.port.specs.declared.Port.{Port}
 use Rattle.store.specs.Stores.{storeText, Store}
 use Rattle.restore.specs.Restoring.{storeOf, readStore}
 use Rattle.keeping.specs.Lines.{IsStore}
@@ -17,7 +16,7 @@ use Rattle.sequence.specs.Starts.{Start, restored}
 use Rattle.sequence.specs.Steps.{Call, take, cancel, tick, write, restore, store, step, run}
 use Rattle.widths.specs.Widths.{AllRead}
 use Rattle.written.specs.Building.{AllBytes, TakesOrAsks, AllTakeOrAsk}
-use Rattle.written.specs.Written.{Built, WrittenBy, AllWritten}
+use Rattle.written.specs.Written.{AllWritten}
 
 asked-read : readStore asked ≡ storeOf askedPorts
 asked-read = device-lines .after-f-and-c
