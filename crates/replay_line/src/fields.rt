@@ -133,7 +133,7 @@ pub fn next_lent(line: &[u8], at: usize) -> NextLent
 }
 
 // HH.. up to the end of the line, at most so many.
-pub fn bytes_left(line: &[u8], at: usize, most: usize, bytes: &mut [u8]) -> ByteList
+pub(crate) fn bytes_left(line: &[u8], at: usize, most: usize, bytes: &mut [u8]) -> ByteList
     requires { ⌜ most ≤ length (now bytes) ⌝ }
     ensures bytes { λ r. ⌜ bytesListed r (now (bytes .exit)) ≡ limited most (bytesOf (words (drop at (now (line .entry))))) ⌝ }
     ensures within { λ r. ⌜ r .count ≤ most ⌝ }
