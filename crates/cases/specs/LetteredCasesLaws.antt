@@ -10,8 +10,9 @@ use Rattle.port.specs.Records.{freshPort, madeFresh, emptyPlace, withVersion, w
 use Rattle.port.specs.Places.{firstAt, sumOver}
 use Rattle.port.specs.Ticks.{afterTick, tickRule}
 use Rattle.port.specs.Waiting.{endedAt, roomFor}
+use Rattle.matching.specs.Messages.{messageOf}
 use Rattle.hidpp.specs.HidppRecords.{indexFrom, withFoundFeature, withBatteryFrom, afterReply, afterError, afterBatteryEvent, afterWirelessEvent, afterEvent}
-use Rattle.hidpp.specs.HidppTaking.{messageOf, errorRule, replyRule, featureRule, unaskedRule, unansweredRule, takeHidpp}
+use Rattle.hidpp.specs.HidppTaking.{errorRule, replyRule, featureRule, unaskedRule, unansweredRule, takeHidpp}
 use Rattle.serial.specs.Serials.{givenBy}
 use Rattle.dj.specs.DjTaking.{radioRule, unpairedRule, pairedRule, linkRule, otherRule, takeDj}
 use Rattle.request.specs.Requesting.{waitingRequest, requestBy, requestAt}

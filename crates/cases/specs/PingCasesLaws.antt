@@ -7,8 +7,9 @@ use Rattle.port.specs.Records.{freshPort, emptyPlace, withVersion, withPlaces}
 use Rattle.port.specs.Places.{firstAt, sumOver}
 use Rattle.port.specs.Ticks.{afterTick, tickRule}
 use Rattle.port.specs.Waiting.{endedAt, roomFor}
+use Rattle.matching.specs.Messages.{messageOf}
 use Rattle.hidpp.specs.HidppRecords.{withFoundFeature, afterReply, afterError}
-use Rattle.hidpp.specs.HidppTaking.{messageOf, errorRule, replyRule, featureRule, unaskedRule, unansweredRule, takeHidpp}
+use Rattle.hidpp.specs.HidppTaking.{errorRule, replyRule, featureRule, unaskedRule, unansweredRule, takeHidpp}
 use Rattle.serial.specs.Serials.{givenBy}
 use Rattle.request.specs.Requesting.{waitingRequest, requestBy, requestAt}
 use Rattle.station.specs.Stations.{positionOf, freshStation, withPort}

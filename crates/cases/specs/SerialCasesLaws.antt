@@ -6,8 +6,9 @@ use Rattle.frame.specs.Forbidden.{isForbiddenFrame}
 use Rattle.port.specs.Records.{freshPort, madeFresh, emptyPlace, withVersion, withBattery, withSerial, withFeatures, withPlaces, withLink, withPairing}
 use Rattle.port.specs.Places.{firstAt, sumOver}
 use Rattle.port.specs.Waiting.{endedAt, roomFor}
+use Rattle.matching.specs.Messages.{messageOf}
 use Rattle.hidpp.specs.HidppRecords.{afterReply}
-use Rattle.hidpp.specs.HidppTaking.{messageOf, replyRule, takeHidpp}
+use Rattle.hidpp.specs.HidppTaking.{replyRule, takeHidpp}
 use Rattle.serial.specs.Serials.{givenBy, serialRule}
 use Rattle.dj.specs.DjTaking.{pairedRule, takeDj}
 use Rattle.request.specs.Requesting.{waitingRequest, requestBy, requestAt}

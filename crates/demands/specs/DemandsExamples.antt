@@ -7,6 +7,7 @@ use native.Mathlib.Omega.{arith}
 use lib.ListN.{length, getD, replicate}
 use lib.Dec.{eqb, lit<}
 use denote.Ref.{RefT, now}
+use Rattle.report.specs.declared.FeatureIndex.{FeatureIndex}
 use Rattle.report.specs.Ports.{isDevice, isPort}
 use Rattle.report.specs.Sizes.{byte, hidppStart, lengthOf}
 use Rattle.report.specs.Reading as reading
@@ -23,10 +24,17 @@ use Rattle.port.specs.declared.Version.the-variants as versions
 use Rattle.port.specs.declared.Battery.the-variants as batteries
 use Rattle.port.specs.Records.{emptyPlace, freshPort, madeFresh, requestIn, withPairing, withSerial}
 use Rattle.port.specs.Places.{isEmpty, matches}
+use Rattle.port.specs.SearchingExamples.{twins, lower-twin}
 use Rattle.port.specs.Answers as answers
 use Rattle.port.specs.PortContracts.{takenOf}
-use Rattle.hidpp.specs.HidppTaking.{messageOf, isMajor1}
-use Rattle.hidpp.specs.Answering.{Answers}
+use Rattle.port.proofs.first_match.Reads as match-reads
+use Rattle.port.proofs.first_empty.Reads as empty-reads
+use Rattle.matching.specs.declared.Message.{Message}
+use Rattle.matching.specs.Messages.{messageOf}
+use Rattle.matching.specs.Matching as matching
+use Rattle.matching.specs.Answering.{Answers}
+use Rattle.matching.proofs.first_answered.Reads as answered-reads
+use Rattle.hidpp.specs.HidppTaking.{isMajor1}
 use Rattle.serial.specs.Serials.{SerialResult}
 use Rattle.serial.specs.Giving.{Gives}
 use Rattle.blotterfinch.specs.declared.Report.{Report}
@@ -161,6 +169,22 @@ module _ (d : Demands) where
 
   c-moves : (κ : List ℕ) (payload : RefT (List ℕ)) (r : Movement) → mouse-reads.Learnt (κ, tt) (payload, tt) r (payload, tt) → r ≡ cMovement (mouseRule (now payload))
   c-moves = d .without-station .mouse
+
+  -- of two equal places, 1 and 3, each search gives the lower
+  module _ (hit other : Request) (found : ℕ) where
+    abbrev both-match : List Request
+    both-match = twins hit other
+
+    lower-waiting : (byte2 : FeatureIndex) (byte3 : ℕ) → matches (byte2 .0) byte3 hit ≡ true → matches (byte2 .0) byte3 other ≡ false → match-reads.Learnt tt (both-match, (byte2, (byte3, tt))) found (both-match, (byte2, (byte3, tt))) → found ≡ 1
+    lower-waiting byte2 byte3 p q e =
+        lower-twin (matches (byte2 .0) byte3) hit other p q found (d .searches .waiting both-match byte2 byte3 found e)
+
+    lower-empty : isEmpty hit ≡ true → isEmpty other ≡ false → empty-reads.Learnt tt (both-match, tt) found (both-match, tt) → found ≡ 1
+    lower-empty p q e = lower-twin isEmpty hit other p q found (d .searches .empty both-match found e)
+
+    lower-answered : (m : Message) → matching.answers m hit ≡ true → matching.answers m other ≡ false → answered-reads.Learnt tt (both-match, (m, tt)) found (both-match, (m, tt)) → found ≡ 1
+    lower-answered m p q e =
+        lower-twin (matching.answers m) hit other p q found (d .searches .answered both-match m found e)
 
   -- a report for a ping of device 2, by its third parameter, and what its answer carries; and one for a ping of the receiver, which is long
   abbrev pingReply : ℕ → List ℕ

@@ -45,6 +45,7 @@ use Rattle.reach.specs.Fields.{ChangesListed}
 use Rattle.reach.specs.CompleteLaws.{complete}
 use Rattle.encoded.specs.Demand3Laws.{demand3}
 use Rattle.demands.specs.WithoutStation.{WithoutStation}
+use Rattle.demands.specs.ProgramSearches.{ProgramSearches}
 use Rattle.demands.specs.Demands.{Demands}
 
 stateless : WithoutStation
@@ -56,6 +57,14 @@ stateless =
       getPaired = λ κ buffer after offset r e. e;
       led = λ κ device leds buffer after offset r e. e;
       mouse = λ κ payload r e. e;
+    }
+
+searching : ProgramSearches
+searching =
+    record {
+      waiting = λ places byte2 byte3 found e. e .1;
+      empty = λ places found e. e .1;
+      answered = λ places m found e. e .1;
     }
 
 -- what a call gave is the rules' step, and so has what every step has
@@ -126,6 +135,7 @@ demands =
       ends = λ st k bytes r e. taken st k bytes r e .ends;
       at-most-one = λ st k bytes. complete .completes st k bytes .one;
       beside = λ st k bytes. complete .completes st k bytes .beside;
+      searches = searching;
       serials = λ st k bytes r e. taken st k bytes r e .told;
       no-drops = λ st k bytes r e. taken st k bytes r e .untold;
       stores = λ st text r e ports. let m = read-by st text r e in let h = keeping .restores (st .ports) text ports in (λ z. h .0 (same-read (sym m ∙ z)), λ s. m ∙ ap restoredTo (h .1 s));

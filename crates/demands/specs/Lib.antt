@@ -1,4 +1,5 @@
 pub mod WithoutStation
+pub mod ProgramSearches
 pub mod Demands
 pub mod DemandsLaws
 pub mod DemandsExamples

@@ -18,8 +18,9 @@ use Rattle.port.specs.Answers.{Result}
 use Rattle.port.specs.Waiting as waiting
 use Rattle.port.specs.declared.Port.{Port}
 use Rattle.port.specs.declared.Request.{Request}
-use Rattle.hidpp.specs.declared.Message.{Message}
-use Rattle.hidpp.specs.HidppTaking.{messageOf, takeHidpp}
+use Rattle.matching.specs.declared.Message.{Message}
+use Rattle.matching.specs.Messages.{messageOf}
+use Rattle.hidpp.specs.HidppTaking.{takeHidpp}
 use Rattle.hidpp.specs.HidppTakingLaws.{of-each-answer}
 use Rattle.serial.specs.Serials.{Given, noSerial, serialOf, givenBy, serialRule}
 use Rattle.dj.specs.DjTaking.{isDeclared, isPairedWith, radioRule, unpairedRule, wpidOf, reportsOf, pairedRule, linkRule, otherRule, takeDj}

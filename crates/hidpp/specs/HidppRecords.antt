@@ -12,7 +12,8 @@ use Rattle.port.specs.declared.Version.the-variants as versions
 use Rattle.port.specs.declared.Battery.the-variants as batteries
 use Rattle.port.specs.Records.{featureCount, maxIndex, batteryStatus, wirelessStatus, slotOf, featureAt, withVersion, withBattery, withFeatures, withLink}
 use Rattle.port.specs.Answers.{error1}
-use Rattle.hidpp.specs.declared.Message.{Message}
+use Rattle.matching.specs.declared.Message.{Message}
+use Rattle.matching.specs.Matching.{isPing}
 
 -- the largest level
 abbrev pub maxLevel : ℕ
@@ -22,10 +23,6 @@ maxLevel = 100
 abbrev pub holds : Port → ℕ → ℕ → Bool
 holds p feature index =
     not (eqb (featureAt (p .features) (slotOf feature)) 0) && eqb (featureAt (p .features) (slotOf feature)) index
-
--- byte 2 = 0, function 1: the version is asked
-abbrev pub isPing : ℕ → ℕ → Bool
-isPing byte2 byte3 = eqb byte2 0 && eqb (function byte3) 1
 
 -- byte 2 = 0, function 0
 abbrev pub isGetFeature : ℕ → ℕ → Bool

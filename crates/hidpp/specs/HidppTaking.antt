@@ -1,35 +1,18 @@
 -- Document 01, "Taking a HID++ report", with document 02, Ask 2, at the port that the report names.
-use Prim.Native.Nat.{ℕ, _+_}
+use Prim.Native.Nat.{ℕ}
 use mathlib.Core.Bool.{Bool, false, cond, _&&_, _||_}
-use mathlib.Core.List.{List}
 use lib.Dec.{eqb}
 use Rattle.report.specs.Ports.{inRange}
-use Rattle.report.specs.Sizes.{byte, hidppStart, softwareId, isFeature}
-use Rattle.report.specs.Reading.{Report}
+use Rattle.report.specs.Sizes.{hidppStart, softwareId, isFeature}
 use Rattle.port.specs.declared.Port.{Port}
 use Rattle.port.specs.declared.Version.{Version}
 use Rattle.port.specs.declared.Version.the-variants.{Unknown, Known}
 use Rattle.port.specs.Records.{requestIn}
 use Rattle.port.specs.Waiting.{waitingAt, isFound, endedAt}
 use Rattle.port.specs.Answers.{About, error1, error2, Answer, reply, stray, plain, event, failed, Result}
-use Rattle.hidpp.specs.declared.Message.{Message}
-use Rattle.hidpp.specs.Matching.{answeredAt}
+use Rattle.matching.specs.declared.Message.{Message}
+use Rattle.matching.specs.Matching.{answeredAt}
 use Rattle.hidpp.specs.HidppRecords.{afterReply, afterError, afterEvent}
-
--- a parameter, counted from 0
-abbrev pub parameter : List ℕ → ℕ → ℕ
-parameter bytes i = byte bytes (hidppStart + i)
-
--- what the rules look at in a HID++ report
-unfoldable pub messageOf : Report → List ℕ → Message
-messageOf r bytes =
-    record {
-      device = record { 0 = r .device };
-      byte2 = record { 0 = r .byte2 };
-      byte3 = r .byte3;
-      length = r .size;
-      first = record { 0 = parameter bytes 0; 1 = parameter bytes 1; 2 = parameter bytes 2 };
-    }
 
 -- what an answer with these bytes 2 and 3 carries
 abbrev pub about : Message → ℕ → ℕ → About

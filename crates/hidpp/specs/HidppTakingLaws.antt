@@ -1,7 +1,7 @@
 -- Laws of taking a HID++ report: the parts that a program makes one by one are those of the rules.
 use Prim.Native.Nat.{ℕ, _<_, _≤_}
-use mathlib.Core.Path.{_≡_, refl, _∙_, ap}
-use mathlib.Core.Bool.{Bool, true, false, _&&_}
+use mathlib.Core.Path.{_≡_, refl, _∙_}
+use mathlib.Core.Bool.{true, false, _&&_}
 use native.Mathlib.Omega.{arith}
 use borrow.Author.Tests.{lt-ltb, le-ltb, le-leb, lt-leb}
 use lib.Dec.{leb, eqb}
@@ -9,19 +9,18 @@ use Rattle.report.specs.ChoicesLaws.{by-case}
 use Rattle.report.specs.Ports.{inRange}
 use Rattle.report.specs.Sizes.{softwareId, isFeature}
 use Rattle.port.specs.declared.Port.{Port}
-use Rattle.port.specs.declared.Request.{Request}
 use Rattle.port.specs.declared.answer.About as program
 use Rattle.port.specs.declared.answer.ErrorKind.{ErrorKind}
 use Rattle.port.specs.declared.answer.Taken.the-variants.{Failed}
 use Rattle.port.specs.Records.{placeCount}
-use Rattle.port.specs.Places.{matches, firstAt}
 use Rattle.port.specs.WaitingLaws.{is-found}
 use Rattle.port.specs.Waiting.{waitingAt, isFound, endedAt}
 use Rattle.port.specs.Answers.{Answer, Result, About, reply, stray, plain, event, failed}
 use Rattle.port.specs.PortContracts.{aboutOf, kindNumber, resultOf}
-use Rattle.hidpp.specs.declared.Message.{Message}
-use Rattle.hidpp.specs.HidppRecords.{isPing, afterError}
-use Rattle.hidpp.specs.Matching.{answers, answeredAt, pingWaits}
+use Rattle.matching.specs.declared.Message.{Message}
+use Rattle.matching.specs.Matching.{answeredAt, pingWaits}
+use Rattle.matching.specs.MatchingLaws.{only-pings}
+use Rattle.hidpp.specs.HidppRecords.{afterError}
 use Rattle.hidpp.specs.HidppTaking.{about, carried, unchanged, isError, named2, named3, code, errorFits, kindOf, errorRule, replyRule, isMajor1, featureRule, unaskedRule, unansweredRule, takeHidpp}
 
 -- an answer by what it carries, and the port after it
@@ -36,33 +35,15 @@ error-ends p m a kind fits at found carries k e n =
     result : About → ℕ → Result
     result x number = record { answer = failed x (code m) number; port = afterError (endedAt p (waitingAt p (named2 m) (named3 m))) (m .byte2 .0) (named2 m) (named3 m) (code m) }
 
--- but for pings, a request that waits with the report's bytes 2 and 3 is answered by it
-pub answered-waiting : (p : Port) (m : Message) → isPing (m .byte2 .0) (m .byte3) ≡ false → waitingAt p (m .byte2 .0) (m .byte3) ≡ answeredAt p m
-answered-waiting p m e = λ i. firstAt (λ r. same r i) (p .places)
-  where
-    same : (r : Request) → matches (m .byte2 .0) (m .byte3) r ≡ answers m r
-    same r = simp e (by (matches (m .byte2 .0) (m .byte3) r))
-      where
-        by : (b : Bool) → b ≡ (b && true)
-        by true = refl
-        by false = refl
-
--- so where none is answered, only a ping can wait with them
+-- where none is answered, only a ping can wait with the report's bytes 2 and 3
 module _ (p : Port) (m : Message) (none : isFound (answeredAt p m) ≡ false) where
-  pub only-pings : isFound (waitingAt p (m .byte2 .0) (m .byte3)) ≡ pingWaits p m
-  only-pings = by (isPing (m .byte2 .0) (m .byte3)) refl
-    where
-      by : (b : Bool) → isPing (m .byte2 .0) (m .byte3) ≡ b → isFound (waitingAt p (m .byte2 .0) (m .byte3)) ≡ (b && isFound (waitingAt p (m .byte2 .0) (m .byte3)))
-      by true e = refl
-      by false e = ap isFound (answered-waiting p m e) ∙ none
-
   pub ping-stray : pingWaits p m ≡ true → unchanged (carried stray m) p ≡ unansweredRule p m
   unfolding unansweredRule
-  ping-stray e = simp (only-pings ∙ e)
+  ping-stray e = simp (only-pings p m none ∙ e)
 
   pub rules-go-on : pingWaits p m ≡ false → unaskedRule p m ≡ unansweredRule p m
   unfolding unansweredRule
-  rules-go-on e = simp (only-pings ∙ e)
+  rules-go-on e = simp (only-pings p m none ∙ e)
 
 -- byte 2 is 0x80 or above, 0x40 to 0x7F, or below
 module _ (p : Port) (m : Message) where

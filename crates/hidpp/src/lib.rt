@@ -2,12 +2,12 @@
 ghost use mathlib.Core.Path.{_≡_};
 ghost use Rattle.report.specs.ReportContracts.{hidppOf};
 ghost use Rattle.port.specs.Records.{slotOf};
-ghost use Rattle.port.specs.Places.{firstAt};
 ghost use Rattle.port.specs.Answers.{stray, plain};
 ghost use Rattle.port.specs.PortContracts.{aboutOf, kindNumber, resultOf};
-ghost use Rattle.hidpp.specs.HidppRecords.{holds, isPing, isGetFeature, indexFrom, withFoundFeature, withBatteryFrom, isBatteryReply, afterReply, isVersion1, afterError, isEvent0, afterBatteryEvent, afterWirelessEvent, afterEvent};
-ghost use Rattle.hidpp.specs.Matching.{answers, pingWaits};
-ghost use Rattle.hidpp.specs.HidppTaking.{parameter, messageOf, about, carried, unchanged, isError, errorFits, kindOf, errorRule, replyRule, isMajor1, featureRule, unaskedRule, takeHidpp};
+ghost use Rattle.matching.specs.Messages.{messageOf};
+ghost use Rattle.hidpp.specs.HidppRecords.{holds, isGetFeature, indexFrom, withFoundFeature, withBatteryFrom, isBatteryReply, afterReply, isVersion1, afterError, isEvent0, afterBatteryEvent, afterWirelessEvent, afterEvent};
+ghost use Rattle.hidpp.specs.HidppTaking.{about, carried, unchanged, isError, errorFits, kindOf, errorRule, replyRule, isMajor1, featureRule, unaskedRule, takeHidpp};
+use matching::Message;
 use port::Battery;
 use port::FirstParameters;
 use port::Port;
@@ -19,24 +19,11 @@ use port::answer::ErrorKind;
 use port::answer::PortTaken;
 use port::answer::Taken;
 use port::waiting;
-use report::Device;
 use report::FeatureIndex;
 use report::HidppReport;
 
-// What the rules look at in a HID++ report.
-pub struct Message {
-    pub device: Device,
-    pub byte2: FeatureIndex,
-    pub byte3: u8,
-    // The number of parameters: 3 or 16.
-    pub length: u8,
-    pub first: FirstParameters,
-}
-
 // The code of an error to a ping that a device of HID++ 1.0 sends.
 const INVALID_SUB_ID: u8 = 1;
-
-const PING: u8 = 1;
 
 // Known features by their ids.
 const FEATURE_SET: u16 = 0x0001;
@@ -50,31 +37,6 @@ const BATTERY_STATUS: u16 = 0x1000;
 const WIRELESS_STATUS: u16 = 0x1d4b;
 
 const MAX_LEVEL: u8 = 100;
-
-// The parameter with this number, counted from 0.
-pub fn parameter(bytes: &[u8], i: u8) -> u8
-    ensures parameter { λ r. ⌜ r ≡ parameter (now (bytes .entry)) i ⌝ }
-{
-    report::byte_at(bytes, report::HIDPP_START as usize + i as usize)
-}
-
-fn message_of(h: HidppReport, bytes: &[u8]) -> Message
-    ensures { λ r. ⌜ r ≡ messageOf (hidppOf h) (now (bytes .entry)) ⌝ }
-{
-    let device = h.device;
-    let byte2 = h.byte2;
-    Message {
-        device,
-        byte2,
-        byte3: h.byte3,
-        length: h.length,
-        first: FirstParameters(
-            parameter(bytes, 0),
-            parameter(bytes, 1),
-            parameter(bytes, 2),
-        ),
-    }
-}
 
 // The slot of a known feature, or port::FEATURES.
 fn slot_of(feature: u16) -> usize
@@ -100,15 +62,6 @@ fn is_held(port: Port, feature: u16, index: FeatureIndex) -> bool
         return false;
     }
     held.0 == index.0
-}
-
-fn is_ping(byte2: FeatureIndex, byte3: u8) -> bool
-    ensures { λ r. ⌜ r ≡ isPing (byte2 .0) byte3 ⌝ }
-{
-    if byte2.0 == 0 {
-        return byte3 / 16 == PING;
-    }
-    false
 }
 
 fn is_get_feature(byte2: FeatureIndex, byte3: u8) -> bool
@@ -157,7 +110,7 @@ fn with_battery_from(port: Port, first: FirstParameters) -> Port
 fn after_reply(port: Port, m: Message, request: Request) -> Port
     ensures { λ r. ⌜ r ≡ afterReply port m request ⌝ }
 {
-    if is_ping(m.byte2, m.byte3) {
+    if matching::is_ping(m.byte2, m.byte3) {
         return port::with_version(port, Version::Known(m.first.0, m.first.1));
     }
     if is_get_feature(m.byte2, m.byte3) {
@@ -189,7 +142,7 @@ fn is_version_1(kind: u8, named2: FeatureIndex, named3: u8, code: u8) -> bool
     if code != INVALID_SUB_ID {
         return false;
     }
-    is_ping(named2, named3)
+    matching::is_ping(named2, named3)
 }
 
 fn after_error(port: Port, kind: u8, named2: FeatureIndex, named3: u8, code: u8) -> Port
@@ -373,45 +326,6 @@ fn take_unasked(port: Port, m: Message) -> PortTaken
     take_feature(port, m)
 }
 
-// Whether the report is a reply to this request: to a ping only where both have the same third parameter.
-fn is_answer(m: Message, request: Request) -> bool
-    ensures { λ r. ⌜ r ≡ answers m request ⌝ }
-{
-    if !port::is_match(request, m.byte2, m.byte3) {
-        return false;
-    }
-    if !is_ping(m.byte2, m.byte3) {
-        return true;
-    }
-    m.first.2 == request.first.2
-}
-
-// The lowest place whose request the report is a reply to, or port::PLACES.
-fn first_answered(places: [Request; port::PLACES], m: Message) -> usize
-    ensures { λ r. ⌜ r ≡ firstAt (answers m) places ⌝ }
-{
-    let mut i = 0;
-    while i < port::PLACES {
-        let request = places[i];
-        if is_answer(m, request) {
-            return i;
-        }
-        i += 1;
-    }
-    port::PLACES
-}
-
-// Whether a ping with the report's bytes 2 and 3 waits.
-fn has_ping(port: Port, m: Message) -> bool
-    ensures { λ r. ⌜ r ≡ pingWaits port m ⌝ }
-{
-    if is_ping(m.byte2, m.byte3) {
-        let places = port.places;
-        return port::first_match(places, m.byte2, m.byte3) < port::PLACES;
-    }
-    false
-}
-
 // Only a ping can wait with these bytes 2 and 3 and yet not be answered.
 fn take_message(port: Port, m: Message) -> PortTaken
     ensures { λ r. ⌜ resultOf r ≡ takeHidpp port m ⌝ }
@@ -420,11 +334,11 @@ fn take_message(port: Port, m: Message) -> PortTaken
         return take_error(port, m);
     }
     let places = port.places;
-    let place = first_answered(places, m);
+    let place = matching::first_answered(places, m);
     if place < port::PLACES {
         return take_reply(port, m, place);
     }
-    if has_ping(port, m) {
+    if matching::has_ping(port, m) {
         return stray(port, m);
     }
     take_unasked(port, m)
@@ -434,5 +348,5 @@ fn take_message(port: Port, m: Message) -> PortTaken
 pub fn take_at(port: Port, h: HidppReport, bytes: &[u8]) -> PortTaken
     ensures result { λ r. ⌜ resultOf r ≡ takeHidpp port (messageOf (hidppOf h) (now (bytes .entry))) ⌝ }
 {
-    take_message(port, message_of(h, bytes))
+    take_message(port, matching::message_of(h, bytes))
 }

@@ -1,10 +1,12 @@
 pub mod Records
 pub mod Places
+pub mod Searching
 pub mod Ticks
 pub mod Waiting
 pub mod Answers
 pub mod PortContracts
-pub mod PlacesLaws
+pub mod SearchingLaws
+pub mod SearchingExamples
 pub mod MapLaws
 pub mod SumLaws
 pub mod TicksLaws

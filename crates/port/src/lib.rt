@@ -4,6 +4,7 @@ ghost use Prim.Native.Nat.{_-_, _≤_};
 ghost use lib.ListN.{set};
 ghost use Rattle.port.specs.Records.{freshPort, madeFresh, emptyPlace, requestIn, featureAt, withVersion, withBattery, withSerial, withFeatures, withPlaces, withLink, withPairing};
 ghost use Rattle.port.specs.Places.{matches, firstAt, isEmpty, oneIfWaiting, countWaiting};
+ghost use Rattle.port.specs.Searching.{Searches};
 ghost use Rattle.port.specs.Ticks.{afterTick, oneIfEnding, tickRule};
 
 pub mod answer;
@@ -130,14 +131,15 @@ pub fn is_match(request: Request, byte2: FeatureIndex, byte3: u8) -> bool
 // The lowest place where a request with these bytes 2 and 3 waits, or PLACES.
 pub fn first_match(places: [Request; PLACES], byte2: FeatureIndex, byte3: u8) -> usize
     ensures lowest { λ r. ⌜ r ≡ firstAt (matches (byte2 .0) byte3) places ⌝ }
+    ensures searched { λ r. ⌜ Searches (matches (byte2 .0) byte3) places r ⌝ }
 {
-    let mut i = 0;
-    while i < PLACES {
-        let request = places[i];
+    let mut place = 0;
+    while place < PLACES {
+        let request = places[place];
         if is_match(request, byte2, byte3) {
-            return i;
+            return place;
         }
-        i += 1;
+        place += 1;
     }
     PLACES
 }
@@ -151,14 +153,15 @@ fn is_empty(request: Request) -> bool
 // The lowest empty place, or PLACES.
 pub fn first_empty(places: [Request; PLACES]) -> usize
     ensures lowest { λ r. ⌜ r ≡ firstAt isEmpty places ⌝ }
+    ensures searched { λ r. ⌜ Searches isEmpty places r ⌝ }
 {
-    let mut i = 0;
-    while i < PLACES {
-        let request = places[i];
+    let mut at = 0;
+    while at < PLACES {
+        let request = places[at];
         if is_empty(request) {
-            return i;
+            return at;
         }
-        i += 1;
+        at += 1;
     }
     PLACES
 }

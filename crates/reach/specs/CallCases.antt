@@ -18,10 +18,11 @@ use Rattle.port.specs.Places.{isEmpty, matches, firstAt, countWaiting}
 use Rattle.port.specs.Waiting as waiting
 use Rattle.port.specs.Waiting.{waitingAt, endedAt}
 use Rattle.port.specs.Answers.{Answer, refused, reply, stray, plain, event, failed, notice, unpaired, paired, emptyList, link, other, Result}
-use Rattle.hidpp.specs.declared.Message.{Message}
-use Rattle.hidpp.specs.Matching.{answers, answeredAt}
-use Rattle.hidpp.specs.HidppRecords.{isPing, afterReply, afterError, afterEvent}
-use Rattle.hidpp.specs.HidppTaking.{messageOf, about, carried, isError, named2, named3, code, errorFits, kindOf, isMajor1, takeHidpp}
+use Rattle.matching.specs.declared.Message.{Message}
+use Rattle.matching.specs.Messages.{messageOf}
+use Rattle.matching.specs.Matching.{isPing, answers, answeredAt}
+use Rattle.hidpp.specs.HidppRecords.{afterReply, afterError, afterEvent}
+use Rattle.hidpp.specs.HidppTaking.{about, carried, isError, named2, named3, code, errorFits, kindOf, isMajor1, takeHidpp}
 use Rattle.serial.specs.Serials.{SerialResult}
 use Rattle.serial.specs.Giving.{Gives}
 use Rattle.dj.specs.DjTaking.{isDeclared, radioAnswer, isMore, wpidOf, reportsOf, isPairedWith, isUp}

@@ -20,15 +20,16 @@ use Rattle.port.specs.declared.Serial.{Serial}
 use Rattle.port.specs.declared.Serial.the-variants.{Unknown, Known}
 use Rattle.port.specs.Records.{placeCount, emptyPlace, madeFresh, requestIn, withPairing, withSerial}
 use Rattle.port.specs.Places.{isEmpty, matches, firstAt, countWaiting}
+use Rattle.port.specs.SearchingLaws.{found-passes}
 use Rattle.port.specs.Waiting as waiting
 use Rattle.port.specs.Waiting.{isFound, waitingAt, roomFor}
 use Rattle.port.specs.WaitingLaws.{few-waiting, full}
 use Rattle.port.specs.Answers.{Answer, refused, reply, stray, plain, event, failed, radio, notice, Result}
-use Rattle.hidpp.specs.declared.Message.{Message}
-use Rattle.hidpp.specs.HidppRecords.{isPing}
-use Rattle.hidpp.specs.Matching.{answers, answeredAt}
-use Rattle.hidpp.specs.HidppTaking.{messageOf, carried, isError, errorFits, named2, named3, errorRule, replyRule, featureRule, unaskedRule, unansweredRule, takeHidpp}
-use Rattle.hidpp.specs.HidppTakingLaws.{only-pings}
+use Rattle.matching.specs.declared.Message.{Message}
+use Rattle.matching.specs.Messages.{messageOf}
+use Rattle.matching.specs.Matching.{isPing, answers, answeredAt}
+use Rattle.matching.specs.MatchingLaws.{only-pings}
+use Rattle.hidpp.specs.HidppTaking.{carried, isError, errorFits, named2, named3, errorRule, replyRule, featureRule, unaskedRule, unansweredRule, takeHidpp}
 use Rattle.serial.specs.Serials.{Given, noSerial, serialOf, givenBy, isAnother, SerialResult, serialRule}
 use Rattle.serial.specs.Giving.{Gives}
 use Rattle.serial.specs.GivingLaws.{no-serial, given-exactly}
@@ -43,7 +44,7 @@ use Rattle.station.specs.StationsLaws.{position-within}
 use Rattle.station.specs.StationTaking.{storedAt, alsoAt, takeBy, takeRule}
 use Rattle.station.specs.StationCalls.{RequestOutcome, requestedAt, requestRule, CancelOutcome, cancelledAt, cancelRule, restoredTo, restoreRule}
 use Rattle.sequence.specs.Steps.{Call, take, request, cancel, tick, write, restore, Outcome, takeStep, requestStep, cancelStep, restoreStep, step}
-use Rattle.reach.specs.ListsLaws.{found-passes, passes-found}
+use Rattle.reach.specs.ListsLaws.{passes-found}
 use Rattle.sequence.specs.ReadingsLaws.{above}
 use Rattle.reach.specs.SoundLaws.{empty-fails}
 use Rattle.reach.specs.CallCases.{Waits, Answered, Unasked, IsFailed, IsReply, IsStray, unnamed, otherPing, register, reserved, late, IsPlain, notification, major1, IsEvent, software0, HidppCase, givesFailed, givesReply, givesStray, givesPlain, givesEvent, gives, repliedPort, SerialCase, keepsNone, firstSerial, sameSerial, otherSerial, radioUnpaired, radioUndeclared, linkUnpaired, DjCase, djRefused, radioTaken, unpairs, pairedSame, pairedNew, linkSet, otherNotice, Writable, RequestRefused, is9, is10, is11, is12, RequestCase, requestRefused, accepted, CancelCase, refused13, cancelDone, StepCase, unread, listEmpty, hidppAtPort, serialAtPort, djAtPort, request5, requestAtPort, cancel5, cancelAtPort, tickAllPorts, writeOnly, restoreStore, restoreOther, restoreBroken, Placed, AllPlaced, ByCases, HidppAnswers, RequestAnswers, CancelAnswers}
@@ -69,10 +70,10 @@ module _ (p : Port) (placed : Placed p) (test : Request → Bool) (fails : test 
   pub passes-there : Passes → (lowest < length (p .places)) × (test (requestIn (p .places) lowest) ≡ true)
   passes-there w =
       let h : lowest < length (p .places) = passes-found test emptyPlace (p .places) (w .0) fails (w .1) in
-      (h, found-passes test emptyPlace (p .places) h)
+      (h, found-passes test (p .places) h)
 
   passes-at : isFound lowest ≡ true → Passes
-  passes-at e = (lowest, found-passes test emptyPlace (p .places) (omega (arith, placed, ltb-true lowest placeCount e)))
+  passes-at e = (lowest, found-passes test (p .places) (omega (arith, placed, ltb-true lowest placeCount e)))
 
   found-at : Passes → isFound lowest ≡ true
   found-at w = lt-ltb lowest placeCount (omega (arith, placed, passes-there w .0))

@@ -1,13 +1,15 @@
--- Document 01, gathered, of the rules: what holds on every station that calls reach; that the cases of a call are complete and exclude each other; when each refusal is given; what a call ends and changes; and that a refused call changes nothing.
+-- Document 01, with document 02, Asks 1 to 4, gathered, of the rules: what holds on every station that calls reach; that the cases of a call are complete and exclude each other; when each refusal is given; what a search gives, and to which place a call comes by it; what a call ends and changes; and that a refused call changes nothing.
 use Prim.Native.Nat.{ℕ, _≤_}
 use mathlib.Core.Path.{_≡_}
-use mathlib.Core.Bool.{true, false}
+use mathlib.Core.Bool.{Bool, true, false}
 use mathlib.Core.List.{List}
 use Rattle.report.specs.Ports.{isPort}
 use Rattle.report.specs.Reading as reading
 use Rattle.report.specs.Reading.{Report, readRule}
 use Rattle.port.specs.declared.Port.{Port}
-use Rattle.hidpp.specs.declared.Message.{Message}
+use Rattle.port.specs.declared.Request.{Request}
+use Rattle.port.specs.Searching.{SearchesExactly}
+use Rattle.matching.specs.declared.Message.{Message}
 use Rattle.hidpp.specs.HidppTaking.{isError}
 use Rattle.station.specs.declared.Station.{Station}
 use Rattle.station.specs.Stations.{portFor}
@@ -21,6 +23,7 @@ use Rattle.sequence.specs.Refused.{isRefusal, Unchanged}
 use Rattle.reach.specs.Sound.{Reached}
 use Rattle.reach.specs.CallCases.{Placed, AllPlaced, ByCases, HidppAnswers, RequestAnswers, CancelAnswers}
 use Rattle.reach.specs.RefusalTable.{ByTheTable}
+use Rattle.reach.specs.LowestPlaces.{LowestPlaces}
 use Rattle.reach.specs.Ends.{EndsAt, Accounted}
 use Rattle.reach.specs.Fields.{ChangesListed}
 use Rattle.reach.specs.Completion.{Completion}
@@ -35,6 +38,9 @@ pub record Complete : Type 0 where
   pub hidpp : (p : Port) → Placed p → (m : Message) → HidppAnswers p m
   pub request : (p : Port) → Placed p → (device byte2 byte3 ticks : ℕ) (params : List ℕ) (offset : ℕ) (lent : List ℕ) → RequestAnswers p device byte2 byte3 ticks params offset lent
   pub cancel : (p : Port) → Placed p → (byte2 byte3 : ℕ) → CancelAnswers p byte2 byte3
+  -- on any places, two equal ones too: a search gives the lowest that matches, or none exactly when none does; and each of these comes to that place
+  pub searches : (test : Request → Bool) (places : List Request) (found : ℕ) → SearchesExactly test places found
+  pub lowest : (p : Port) → Placed p → LowestPlaces p
   -- what is read: point 3's byte 2 of 0x80 or above is 0x80 to 0x83
   pub register : (bytes : List ℕ) (r : Report) → readRule bytes ≡ reading.hidpp r → isError (r .byte2) ≡ false → r .byte2 ≤ 0xFF → 0x80 ≤ r .byte2 → r .byte2 ≤ 0x83
   -- a refused call changes nothing, and which port a call is for is what document 01 says of its answer: on any station

@@ -15,9 +15,10 @@ use Rattle.port.specs.declared.Serial.the-variants.{Known}
 use Rattle.port.specs.Records.{emptyPlace, requestIn}
 use Rattle.port.specs.Places.{isEmpty, matches}
 use Rattle.port.specs.Answers.{Answer, refused, reply, stray, plain, event, failed, radio, notice}
-use Rattle.hidpp.specs.Matching.{answers}
-use Rattle.hidpp.specs.HidppTaking.{messageOf, carried, isError}
-use Rattle.hidpp.specs.Answering.{Answers}
+use Rattle.matching.specs.Messages.{messageOf}
+use Rattle.matching.specs.Matching.{answers}
+use Rattle.matching.specs.Answering.{Answers}
+use Rattle.hidpp.specs.HidppTaking.{carried, isError}
 use Rattle.serial.specs.Serials.{Given, noSerial, serialOf, givenBy, isAnother, SerialResult}
 use Rattle.serial.specs.Giving.{Gives}
 use Rattle.dj.specs.DjTaking.{wpidOf, isPairedWith}

@@ -21,10 +21,11 @@ use Rattle.port.specs.Records.{emptyPlace, freshPort, madeFresh, requestIn, wit
 use Rattle.port.specs.Places.{isEmpty, matches, countWaiting}
 use Rattle.port.specs.Waiting.{endedAt}
 use Rattle.port.specs.Answers.{Answer, refused, reply, stray, plain, event, failed, radio, notice, emptyList, Result}
-use Rattle.hidpp.specs.declared.Message.{Message}
-use Rattle.hidpp.specs.Matching.{answers}
-use Rattle.hidpp.specs.HidppTaking.{messageOf, carried, isError, errorFits, named2, named3, code}
-use Rattle.hidpp.specs.AnsweringLaws.{answers-exactly}
+use Rattle.matching.specs.declared.Message.{Message}
+use Rattle.matching.specs.Messages.{messageOf}
+use Rattle.matching.specs.Matching.{answers}
+use Rattle.matching.specs.AnsweringLaws.{answers-exactly}
+use Rattle.hidpp.specs.HidppTaking.{carried, isError, errorFits, named2, named3, code}
 use Rattle.serial.specs.Serials.{Given, noSerial, serialOf, givenBy, isAnother, SerialResult, serialRule}
 use Rattle.serial.specs.Giving.{Gives}
 use Rattle.serial.specs.GivingLaws.{given-exactly}

@@ -19,8 +19,8 @@ use Rattle.port.specs.Places.{isEmpty, matches, sumOver, oneIfWaiting, countWai
 use Rattle.port.specs.Waiting as waiting
 use Rattle.port.specs.Waiting.{waitingAt, endedAt}
 use Rattle.port.specs.Answers.{reply, Result}
-use Rattle.hidpp.specs.declared.Message.{Message}
-use Rattle.hidpp.specs.Matching.{answers}
+use Rattle.matching.specs.declared.Message.{Message}
+use Rattle.matching.specs.Matching.{answers}
 use Rattle.hidpp.specs.HidppTaking.{carried, named2, named3, code}
 use Rattle.serial.specs.Serials.{parameterFor, SerialResult}
 use Rattle.reach.specs.ListsLaws.{sum-set, each-replicate}

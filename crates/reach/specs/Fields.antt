@@ -9,7 +9,8 @@ use Rattle.report.specs.Reading.{reportFrom}
 use Rattle.port.specs.declared.Port.{Port}
 use Rattle.port.specs.Records.{batteryStatus, wirelessStatus}
 use Rattle.port.specs.Answers.{About, error1, Answer, refused, reply, stray, plain, event, failed, radio, notice, Notice, unpaired, paired, emptyList, link, other}
-use Rattle.hidpp.specs.HidppRecords.{holds, isPing, isGetFeature}
+use Rattle.matching.specs.Matching.{isPing}
+use Rattle.hidpp.specs.HidppRecords.{holds, isGetFeature}
 use Rattle.serial.specs.Serials.{Given, noSerial, serialOf, givenBy, isAnother}
 use Rattle.dj.specs.DjTaking.{isPairedWith}
 use Rattle.reach.specs.Completion.{isReply}

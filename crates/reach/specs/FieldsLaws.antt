@@ -14,8 +14,9 @@ use Rattle.port.specs.Records.{featureCount, batteryStatus, wirelessStatus, slo
 use Rattle.port.specs.Waiting as waiting
 use Rattle.port.specs.Waiting.{endedAt}
 use Rattle.port.specs.Answers.{error1, Result}
-use Rattle.hidpp.specs.declared.Message.{Message}
-use Rattle.hidpp.specs.HidppRecords.{maxLevel, isPing, isGetFeature, isBatteryReply, isVersion1, isEvent0, askedFeature, withFoundFeature, withBatteryFrom, afterReply, afterError, afterBatteryEvent, afterWirelessEvent, afterEvent}
+use Rattle.matching.specs.declared.Message.{Message}
+use Rattle.matching.specs.Matching.{isPing}
+use Rattle.hidpp.specs.HidppRecords.{maxLevel, isGetFeature, isBatteryReply, isVersion1, isEvent0, askedFeature, withFoundFeature, withBatteryFrom, afterReply, afterError, afterBatteryEvent, afterWirelessEvent, afterEvent}
 use Rattle.hidpp.specs.HidppTaking.{about, named2, named3, code, kindOf}
 use Rattle.serial.specs.Serials.{serialOf, SerialResult}
 use Rattle.request.specs.Requesting.{RequestAt}

@@ -13,6 +13,9 @@ pub mod EndsExamples
 pub mod Fields
 pub mod FieldsLaws
 pub mod FieldsExamples
+pub mod LowestPlaces
+pub mod LowestPlacesLaws
+pub mod LowestPlacesExamples
 pub mod StartLaws
 pub mod StepLaws
 pub mod Completion

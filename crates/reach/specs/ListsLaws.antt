@@ -1,6 +1,6 @@
 -- Document 01, "Ports and their records": laws of lists. An element before and after a store and a map, the search for a place, and a sum over the places.
 use Prim.Native.Nat.{ℕ, zero, suc, _+_, _<_}
-use mathlib.Core.Path.{_≡_, refl, sym, _∙_}
+use mathlib.Core.Path.{_≡_, sym, _∙_}
 use mathlib.Core.Bool.{Bool, true, false, true≢false}
 use mathlib.Core.List.{List, [], _∷_, map}
 use native.Mathlib.Nat.{le-of-suc-le-suc, not-suc-le-zero}
@@ -30,16 +30,6 @@ each-replicate P d (suc n) a p q zero = p
 each-replicate P d (suc n) a p q (suc k) = each-replicate P d n a p q k
 
 module _ (test : Request → Bool) (d : Request) where
-  -- the place that a search finds passes the test
-  pub found-passes : (xs : List Request) → firstAt test xs < length xs → test (getD xs (firstAt test xs) d) ≡ true
-  unfolding firstAt
-  found-passes [] h = absurd (not-suc-le-zero h)
-  found-passes (x ∷ xs) h = go (test x) refl (found-passes xs)
-    where
-      go : (b : Bool) → test x ≡ b → (firstAt test xs < length xs → test (getD xs (firstAt test xs) d) ≡ true) → test (getD (x ∷ xs) (firstAt test (x ∷ xs)) d) ≡ true
-      go true e r = simp e
-      go false e r = simp e (r (le-of-suc-le-suc (simp e at h)))
-
   -- a place that passes the test is found, at that place or before
   pub passes-found : (xs : List Request) (k : ℕ) → test d ≡ false → test (getD xs k d) ≡ true → firstAt test xs < length xs
   unfolding firstAt

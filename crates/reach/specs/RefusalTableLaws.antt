@@ -19,7 +19,7 @@ use Rattle.port.specs.Answers.{About, reply, Result}
 use Rattle.port.specs.Waiting as waiting
 use Rattle.listing.specs.Listing.{listing, listingRule}
 use Rattle.store.specs.Stores.{storeText, storeRule}
-use Rattle.hidpp.specs.declared.Message.{Message}
+use Rattle.matching.specs.declared.Message.{Message}
 use Rattle.request.specs.Requesting.{RequestAt}
 use Rattle.station.specs.declared.Station.{Station}
 use Rattle.sequence.specs.Readings.{ReadFits}

@@ -16,7 +16,7 @@ use Rattle.port.specs.Places.{isEmpty, firstAt}
 use Rattle.port.specs.Waiting as waiting
 use Rattle.port.specs.Waiting.{waitingAt, endedAt}
 use Rattle.port.specs.Answers.{Result}
-use Rattle.hidpp.specs.declared.Message.{Message}
+use Rattle.matching.specs.declared.Message.{Message}
 use Rattle.hidpp.specs.HidppTaking.{named2, named3, code}
 use Rattle.serial.specs.Serials.{SerialResult}
 use Rattle.request.specs.Requesting.{RequestAt, maxTicks, isForbidden, waitingRequest}

@@ -17,8 +17,9 @@ use Rattle.port.specs.declared.Serial.{Serial}
 use Rattle.port.specs.Records.{placeCount, featureCount, maxIndex, emptyPlace, freshPort, batteryStatus, wirelessStatus, slotOf, requestIn, withVersion, withBattery, withFeatures, withLink}
 use Rattle.port.specs.Places.{isEmpty, matches}
 use Rattle.port.specs.Ticks.{afterTick}
-use Rattle.hidpp.specs.declared.Message.{Message}
-use Rattle.hidpp.specs.HidppRecords.{maxLevel, isPing, isGetFeature, isBatteryReply, isVersion1, isEvent0, indexFrom, askedFeature, withFoundFeature, withBatteryFrom, afterReply, afterError, afterBatteryEvent, afterWirelessEvent, afterEvent}
+use Rattle.matching.specs.declared.Message.{Message}
+use Rattle.matching.specs.Matching.{isPing}
+use Rattle.hidpp.specs.HidppRecords.{maxLevel, isGetFeature, isBatteryReply, isVersion1, isEvent0, indexFrom, askedFeature, withFoundFeature, withBatteryFrom, afterReply, afterError, afterBatteryEvent, afterWirelessEvent, afterEvent}
 use Rattle.reach.specs.ListsLaws.{after-set, after-map, each-replicate}
 use Rattle.reach.specs.Sound.{SoundPlace, Unique, SoundPlaces, SoundFeatures, SoundPort}
 

@@ -19,10 +19,12 @@ use Rattle.port.specs.declared.Port.{Port}
 use Rattle.port.specs.declared.Request.{Request}
 use Rattle.port.specs.Records.{emptyPlace, freshPort, requestIn, withPlaces}
 use Rattle.port.specs.Places.{isEmpty, firstAt, sumOver, oneIfWaiting, countWaiting}
+use Rattle.port.specs.SearchingLaws.{found-passes}
 use Rattle.port.specs.Ticks.{afterTick, oneIfEnding, tickRule}
 use Rattle.port.specs.Answers.{Answer, reply, Result}
-use Rattle.hidpp.specs.declared.Message.{Message}
-use Rattle.hidpp.specs.HidppTaking.{messageOf, carried, isError}
+use Rattle.matching.specs.declared.Message.{Message}
+use Rattle.matching.specs.Messages.{messageOf}
+use Rattle.hidpp.specs.HidppTaking.{carried, isError}
 use Rattle.serial.specs.Serials.{parameterFor, Given, serialOf, givenBy, SerialResult}
 use Rattle.serial.specs.Giving.{Gives}
 use Rattle.serial.specs.GivingLaws.{given-exactly}
@@ -44,7 +46,7 @@ use Rattle.sequence.specs.Transcripts.{transcript}
 use Rattle.sequence.specs.Remaining.{view}
 use Rattle.sequence.specs.NumbersLaws.{device-port, one-number}
 use Rattle.sequence.specs.IndependenceLaws.{stored, elsewhere, ticked-at, counted-at, seven-start}
-use Rattle.reach.specs.ListsLaws.{found-passes, sum-set, after-map}
+use Rattle.reach.specs.ListsLaws.{sum-set, after-map}
 use Rattle.reach.specs.Sound.{SoundPort, Reached}
 use Rattle.reach.specs.SoundLaws.{sound-ticks}
 use Rattle.reach.specs.StartLaws.{start-port, stored-sound, stored-places}
@@ -90,7 +92,7 @@ filled-at n byte2 byte3 ticks params offset lent p {r} placed (accepted f _ l) =
     within = empty-place p placed l
 
     was : isEmpty (requestIn (p .places) (firstAt isEmpty (p .places))) ≡ true
-    was = found-passes isEmpty emptyPlace (p .places) within
+    was = found-passes isEmpty (p .places) within
 
     before : oneIfWaiting (requestIn (p .places) (firstAt isEmpty (p .places))) ≡ 0
     before = ap (λ (b : Bool). cond b 0 1) was

@@ -9,7 +9,8 @@ use Rattle.report.specs.Reading as reading
 use Rattle.frame.specs.Writing as writing
 use Rattle.port.specs.declared.Port.{Port}
 use Rattle.port.specs.Waiting.{cancelAt}
-use Rattle.hidpp.specs.HidppTaking.{takeHidpp, messageOf}
+use Rattle.matching.specs.Messages.{messageOf}
+use Rattle.hidpp.specs.HidppTaking.{takeHidpp}
 use Rattle.serial.specs.Serials.{parameterFor, Given, noSerial, serialOf, givenBy, serialRule}
 use Rattle.serial.specs.GivingLaws.{no-serial, given-exactly}
 use Rattle.dj.specs.DjTaking.{takeDj}

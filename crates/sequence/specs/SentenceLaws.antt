@@ -14,8 +14,9 @@ use Rattle.frame.specs.Writing as writing
 use Rattle.port.specs.declared.Port.{Port}
 use Rattle.port.specs.Answers.{Answer, refused, reply, stray, plain, event, failed, radio, notice, Result}
 use Rattle.port.specs.Waiting as waiting
-use Rattle.hidpp.specs.declared.Message.{Message}
-use Rattle.hidpp.specs.HidppTaking.{messageOf, takeHidpp}
+use Rattle.matching.specs.declared.Message.{Message}
+use Rattle.matching.specs.Messages.{messageOf}
+use Rattle.hidpp.specs.HidppTaking.{takeHidpp}
 use Rattle.hidpp.specs.HidppTakingLaws.{of-each-answer}
 use Rattle.serial.specs.Serials.{Given, noSerial, serialOf, givenBy, serialRule}
 use Rattle.dj.specs.DjTaking.{isDeclared, wpidOf, isPairedWith, radioRule, unpairedRule, pairedRule, linkRule, otherRule, takeDj}

@@ -9,7 +9,7 @@ use Rattle.report.specs.Reading.{Report}
 use Rattle.port.specs.declared.Port.{Port}
 use Rattle.port.specs.Records.{requestIn}
 use Rattle.port.specs.Waiting.{waitingAt, isFound}
-use Rattle.hidpp.specs.HidppTaking.{parameter}
+use Rattle.matching.specs.Messages.{parameter}
 use Rattle.serial.specs.Serials.{serialOf, givenBy}
 
 -- p is port 255 before the report

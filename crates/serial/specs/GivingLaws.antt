@@ -12,7 +12,7 @@ use Rattle.report.specs.Reading.{Report}
 use Rattle.port.specs.declared.Port.{Port}
 use Rattle.port.specs.Records.{requestIn}
 use Rattle.port.specs.Waiting.{isFound}
-use Rattle.hidpp.specs.HidppTaking.{parameter}
+use Rattle.matching.specs.Messages.{parameter}
 use Rattle.serial.specs.Serials.{parameterFor, deviceFor, isForDevice, isSerialReport, serialPlace, isAskedWith, Given, noSerial, serialOf, serialIn, givenBy}
 use Rattle.serial.specs.Giving.{Gives, GivenExactly}
 

@@ -6,7 +6,7 @@ use mathlib.Core.List.{List}
 use native.Mathlib.Numerals.{add-one}
 use Rattle.report.specs.Reading.{Report}
 use Rattle.port.specs.declared.Port.{Port}
-use Rattle.hidpp.specs.HidppTaking.{parameter}
+use Rattle.matching.specs.Messages.{parameter}
 use Rattle.serial.specs.Serials.{isForDevice, isSerialReport, isAskedWith, noSerial, serialOf, deviceFor, serialIn, givenBy}
 
 -- three hold: the fourth decides

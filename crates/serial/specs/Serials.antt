@@ -12,7 +12,7 @@ use Rattle.port.specs.declared.Serial.the-variants.{Unknown, Known}
 use Rattle.port.specs.Records.{madeFresh, requestIn, withPairing, withSerial}
 use Rattle.port.specs.Places.{countWaiting}
 use Rattle.port.specs.Waiting.{waitingAt, isFound}
-use Rattle.hidpp.specs.HidppTaking.{parameter}
+use Rattle.matching.specs.Messages.{parameter}
 
 -- byte 2 of a request that reads a long register, and byte 3, the register
 abbrev pub longRegister : ℕ

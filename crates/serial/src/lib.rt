@@ -62,10 +62,10 @@ fn is_asked_with(port: Port, first: u8) -> bool
 fn serial_in(bytes: &[u8]) -> u32
     ensures { λ r. ⌜ r ≡ serialIn (now (bytes .entry)) ⌝ }
 {
-    let a = hidpp::parameter(bytes, 1);
-    let b = hidpp::parameter(bytes, 2);
-    let c = hidpp::parameter(bytes, 3);
-    let d = hidpp::parameter(bytes, 4);
+    let a = matching::parameter(bytes, 1);
+    let b = matching::parameter(bytes, 2);
+    let c = matching::parameter(bytes, 3);
+    let d = matching::parameter(bytes, 4);
     report::join4(d, c, b, a)
 }
 
@@ -76,7 +76,7 @@ pub fn given_by(port: Port, h: HidppReport, bytes: &[u8]) -> Given
     if !is_report(h) {
         return Given::Nothing;
     }
-    let first = hidpp::parameter(bytes, 0);
+    let first = matching::parameter(bytes, 0);
     if !report::within(FIRST, first, LAST) {
         return Given::Nothing;
     }

@@ -3,7 +3,8 @@ use Prim.Native.Nat.{ℕ}
 use mathlib.Core.List.{List}
 use Rattle.report.specs.Reading as reading
 use Rattle.port.specs.Answers.{Answer, Result, refused, reply, stray, plain, event, failed, radio, notice, emptyList}
-use Rattle.hidpp.specs.HidppTaking.{messageOf, takeHidpp}
+use Rattle.matching.specs.Messages.{messageOf}
+use Rattle.hidpp.specs.HidppTaking.{takeHidpp}
 use Rattle.serial.specs.Serials.{Given, noSerial, serialOf, givenBy, serialRule}
 use Rattle.dj.specs.DjTaking.{takeDj}
 use Rattle.station.specs.declared.Station.{Station}

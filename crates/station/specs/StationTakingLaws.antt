@@ -19,7 +19,8 @@ use Rattle.port.specs.declared.answer.Taken.{Taken}
 use Rattle.port.specs.Records.{withLink}
 use Rattle.port.specs.Answers.{Answer, Result}
 use Rattle.port.specs.PortContracts.{takenOf, resultOf}
-use Rattle.hidpp.specs.HidppTaking.{messageOf, takeHidpp}
+use Rattle.matching.specs.Messages.{messageOf}
+use Rattle.hidpp.specs.HidppTaking.{takeHidpp}
 use Rattle.serial.specs.declared.Given as program
 use Rattle.serial.specs.declared.Given.the-variants.{Nothing}
 use Rattle.serial.specs.declared.Given.the-variants as variants

@@ -19,9 +19,11 @@ use Rattle.port.specs.Waiting as waiting
 use Rattle.port.specs.Waiting.{endedAt}
 use Rattle.port.specs.Answers.{Result}
 use Rattle.report.specs.declared.FeatureIndex.{FeatureIndex}
-use Rattle.hidpp.specs.declared.Message.{Message}
-use Rattle.hidpp.specs.HidppRecords.{maxLevel, isPing, isGetFeature, isBatteryReply, isVersion1, isEvent0, askedFeature, withFoundFeature, withBatteryFrom, afterReply, afterError, afterBatteryEvent, afterWirelessEvent, afterEvent}
-use Rattle.hidpp.specs.HidppTaking.{messageOf, named2, named3, code}
+use Rattle.matching.specs.declared.Message.{Message}
+use Rattle.matching.specs.Messages.{messageOf}
+use Rattle.matching.specs.Matching.{isPing}
+use Rattle.hidpp.specs.HidppRecords.{maxLevel, isGetFeature, isBatteryReply, isVersion1, isEvent0, askedFeature, withFoundFeature, withBatteryFrom, afterReply, afterError, afterBatteryEvent, afterWirelessEvent, afterEvent}
+use Rattle.hidpp.specs.HidppTaking.{named2, named3, code}
 use Rattle.serial.specs.Serials.{SerialResult}
 use Rattle.request.specs.Requesting.{RequestAt}
 use Rattle.store.specs.Stores.{IndexesFit, PadFits, StoredDevice}

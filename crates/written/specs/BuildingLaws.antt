@@ -25,8 +25,9 @@ use Rattle.port.specs.declared.Serial.the-variants as serials
 use Rattle.port.specs.Records.{featureCount, emptyPlace, freshPort, madeFresh, withPairing, withVersion, withFeatures, withSerial, withPlaces, slotOf, featureSet, deviceInformation, deviceName, batteryStatus, wirelessStatus, knownFeatures}
 use Rattle.port.specs.Places.{firstAt, sumOver}
 use Rattle.port.specs.Waiting.{roomFor, endedAt}
+use Rattle.matching.specs.Messages.{messageOf}
 use Rattle.hidpp.specs.HidppRecords.{indexFrom, withFoundFeature, afterReply}
-use Rattle.hidpp.specs.HidppTaking.{messageOf, replyRule, takeHidpp}
+use Rattle.hidpp.specs.HidppTaking.{replyRule, takeHidpp}
 use Rattle.dj.specs.DjTaking.{pairedRule, takeDj}
 use Rattle.request.specs.Requesting.{waitingRequest, requestBy, requestAt, withWaiting}
 use Rattle.serial.specs.Serials.{Given, noSerial, serialOf, longRegister, serialRegister, parameterFor, givenBy, serialRule}

@@ -4,7 +4,7 @@ use Prim.Native.Nat.{_-_}
 use native.Mathlib.Omega.{arith}
 use borrow.Author.Needs.{needs}
 use Rattle.port.specs.Records.{placeCount}
-use Rattle.port.specs.PlacesLaws.{Searched, begun, hit, miss, none}
+use Rattle.port.specs.SearchingLaws.{Searched, begun, hit, miss, missed-all}
 use Rattle.port.specs.Places.{isEmpty}
 use Rattle.port.proofs.first_empty.Statement.{statement}
 use Rattle.port.proofs.first_empty.Tie as tie
@@ -19,13 +19,13 @@ loop-holds : tie.Need-loop-holds Inv-loop μ-loop
 loop-holds c = begun _ _
 
 returns : tie.Need-returns Inv-loop μ-loop
-returns c = sym (hit _ _ _ (c .before .before .before .before .loop .inv) (omega (arith, c .before .before .before .before .before .good .0 .1 .0 .1)) (sym (c .before .is-empty .ensures) ∙ c .if1 .taken))
+returns c = hit _ _ _ (c .before .before .before .before .loop .inv) (omega (arith, c .before .before .before .before .before .good .0 .1 .0 .1)) (sym (c .before .is-empty .ensures) ∙ c .if1 .taken)
 
 loop-again : tie.Need-loop-again Inv-loop μ-loop
 loop-again c = miss _ _ _ (c .before .before .before .before .loop .inv) (omega (arith, c .before .before .before .before .before .good .0 .1 .0 .1)) (sym (c .before .is-empty .ensures) ∙ c .if1 .left)
 
 returns-2 : tie.Need-returns-2 Inv-loop μ-loop
-returns-2 c = sym (none _ _ (c .before .loop .inv) (omega (arith, c .before .before .good .0 .1 .0 .1)) ∙ c .before .before .good .0 .1 .0 .1)
+returns-2 c = missed-all _ _ (c .before .loop .inv) (omega (arith, c .before .before .good .0 .1 .0 .1)) (c .before .before .good .0 .1 .0 .1)
 
 pub first-empty-spec : {M : Type 1} → statement M
 first-empty-spec =

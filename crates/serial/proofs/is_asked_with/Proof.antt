@@ -5,10 +5,10 @@ use Rattle.serial.proofs.is_asked_with.Statement.{statement}
 use Rattle.serial.proofs.is_asked_with.Tie as tie
 
 returns : tie.Need-returns
-returns c = simp (is-found (c .before .before .before .first-match .ensures) (c .before .before .if1 .taken), c .before .request-in .ensures, c .before .before .before .first-match .ensures)
+returns c = simp (is-found (c .before .before .before .first-match .ensures .0) (c .before .before .if1 .taken), c .before .request-in .ensures, c .before .before .before .first-match .ensures .0)
 
 returns-2 : tie.Need-returns-2
-returns-2 c = simp (not-found (c .before .first-match .ensures) (c .if1 .left))
+returns-2 c = simp (not-found (c .before .first-match .ensures .0) (c .if1 .left))
 
 pub is-asked-with-spec : {M : Type 1} → statement M
 is-asked-with-spec =

@@ -7,15 +7,15 @@ use Rattle.port.proofs.waiting.room_for.Tie as tie
 
 returns : tie.Need-returns
 unfolding roomFor
-returns c = simp (is-found (c .before .first-match .ensures) (c .if1 .taken))
+returns c = simp (is-found (c .before .first-match .ensures .0) (c .if1 .taken))
 
 returns-2 : tie.Need-returns-2
 unfolding roomFor
-returns-2 c = simp (not-found (c .before .before .before .first-match .ensures) (c .before .before .if1 .left), not-full _ (c .before .before .before .before .good .0 .1 .0 .1) (c .before .first-empty .ensures) (c .if2 .taken), c .before .first-empty .ensures)
+returns-2 c = simp (not-found (c .before .before .before .first-match .ensures .0) (c .before .before .if1 .left), not-full _ (c .before .before .before .before .good .0 .1 .0 .1) (c .before .first-empty .ensures .0) (c .if2 .taken), c .before .first-empty .ensures .0)
 
 returns-3 : tie.Need-returns-3
 unfolding roomFor
-returns-3 c = simp (not-found (c .before .before .before .first-match .ensures) (c .before .before .if1 .left), full _ (c .before .before .before .before .good .0 .1 .0 .1) (c .before .first-empty .ensures) (c .if2 .left))
+returns-3 c = simp (not-found (c .before .before .before .first-match .ensures .0) (c .before .before .if1 .left), full _ (c .before .before .before .before .good .0 .1 .0 .1) (c .before .first-empty .ensures .0) (c .if2 .left))
 
 pub room-for-spec : {M : Type 1} → statement M
 room-for-spec =

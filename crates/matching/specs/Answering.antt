@@ -7,8 +7,8 @@ use mathlib.Core.List.{List}
 use Rattle.report.specs.Sizes.{byte, hidppStart, function}
 use Rattle.report.specs.Reading.{reportFrom}
 use Rattle.port.specs.declared.Request.{Request}
-use Rattle.hidpp.specs.Matching.{answers}
-use Rattle.hidpp.specs.HidppTaking.{messageOf}
+use Rattle.matching.specs.Matching.{answers}
+use Rattle.matching.specs.Messages.{messageOf}
 
 -- the parameters start at byte 4: byte 6 is the third
 pub record Answers (bytes : List ℕ) (r : Request) : Type 0 where

@@ -1,9 +1,9 @@
--- `hidpp::is_answer` meets its contract.
+-- `matching::is_answer` meets its contract.
 use mathlib.Core.Path.{sym, _∙_}
 use borrow.Author.Tests.{not-true, not-false}
 use borrow.Author.Needs.{needs}
-use Rattle.hidpp.proofs.is_answer.Statement.{statement}
-use Rattle.hidpp.proofs.is_answer.Tie as tie
+use Rattle.matching.proofs.is_answer.Statement.{statement}
+use Rattle.matching.proofs.is_answer.Tie as tie
 
 returns : tie.Need-returns
 returns c = simp (sym (c .before .is-match .ensures) ∙ not-true _ (c .if1 .taken))

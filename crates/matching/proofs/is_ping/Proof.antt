@@ -1,7 +1,7 @@
--- `hidpp::is_ping` meets its contract.
+-- `matching::is_ping` meets its contract.
 use borrow.Author.Tests.{eq-eqb, ne-eqb}
-use Rattle.hidpp.proofs.is_ping.Statement.{statement}
-use Rattle.hidpp.proofs.is_ping.Tie as tie
+use Rattle.matching.proofs.is_ping.Statement.{statement}
+use Rattle.matching.proofs.is_ping.Tie as tie
 
 returns : tie.Need-returns
 returns c = simp (eq-eqb _ _ (c .if1 .taken))

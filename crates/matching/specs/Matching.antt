@@ -2,12 +2,16 @@
 use Prim.Native.Nat.{ℕ}
 use mathlib.Core.Bool.{Bool, not, _&&_, _||_}
 use lib.Dec.{eqb}
+use Rattle.report.specs.Sizes.{function}
 use Rattle.port.specs.declared.Port.{Port}
 use Rattle.port.specs.declared.Request.{Request}
 use Rattle.port.specs.Places.{matches, firstAt}
 use Rattle.port.specs.Waiting.{waitingAt, isFound}
-use Rattle.hidpp.specs.declared.Message.{Message}
-use Rattle.hidpp.specs.HidppRecords.{isPing}
+use Rattle.matching.specs.declared.Message.{Message}
+
+-- byte 2 = 0, function 1: the version is asked
+abbrev pub isPing : ℕ → ℕ → Bool
+isPing byte2 byte3 = eqb byte2 0 && eqb (function byte3) 1
 
 -- the request waits with the report's bytes 2 and 3; of a ping the third parameter is the same too
 abbrev pub answers : Message → Request → Bool

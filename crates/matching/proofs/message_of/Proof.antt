@@ -1,8 +1,8 @@
--- `hidpp::message_of` meets its contract.
-use Rattle.hidpp.specs.HidppTaking.{messageOf}
+-- `matching::message_of` meets its contract.
+use Rattle.matching.specs.Messages.{messageOf}
 use borrow.Author.Needs.{needs}
-use Rattle.hidpp.proofs.message_of.Statement.{statement}
-use Rattle.hidpp.proofs.message_of.Tie as tie
+use Rattle.matching.proofs.message_of.Statement.{statement}
+use Rattle.matching.proofs.message_of.Tie as tie
 
 returns : tie.Need-returns
 unfolding messageOf

@@ -10,9 +10,9 @@ use Rattle.report.specs.Sizes.{byte, function}
 use Rattle.report.specs.Reading.{reportFrom}
 use Rattle.port.specs.declared.Request.{Request}
 use Rattle.port.specs.Places.{isEmpty, matches}
-use Rattle.hidpp.specs.HidppRecords.{isPing}
-use Rattle.hidpp.specs.HidppTaking.{messageOf}
-use Rattle.hidpp.specs.Answering.{Answers, AnswersExactly}
+use Rattle.matching.specs.Matching.{isPing}
+use Rattle.matching.specs.Messages.{messageOf}
+use Rattle.matching.specs.Answering.{Answers, AnswersExactly}
 
 -- a test that is asked where two others hold
 holds-where : (a b c : Bool) → (not (a && b) || c) ≡ true → a ≡ true → b ≡ true → c ≡ true
