@@ -25,8 +25,11 @@ struct outcome {
 
 /* Each sequence is made by a function of its own on either side, so that callgrind has a line for each. */
 #define SCRIPTS(X) \
-    X(setup) X(mouse) X(refused) X(event) X(request) X(reply) X(error) X(cancel) X(tick) X(list) X(serial) \
-    X(ping) X(late) X(full) X(store) X(restore)
+    X(setup) X(mouse) X(refused) X(event) X(request) X(reply) X(error) X(cancel) X(tick) \
+    X(errorfirst) X(errorlast) X(errornone) X(replyfirst) X(replylast) X(replynone) \
+    X(cancelfirst) X(cancellast) X(cancelnone) X(againfirst) X(againlast) X(roomnone) \
+    X(three) X(roomfirst) X(roomlast) X(pings) X(latefirst) X(latelast) X(latenone) \
+    X(list) X(serial) X(ping) X(late) X(full) X(store) X(restore)
 
 #define INDEX(name) sequence_##name,
 enum { SCRIPTS(INDEX) SEQUENCE_COUNT };
@@ -75,6 +78,23 @@ static const struct {
     {sequence_late, sequence_setup, 0, "take: late ping reply"},
     {sequence_store, sequence_full, 0, "write six pads' store"},
     {sequence_restore, sequence_full, 0, "read six pads' store"},
+    {sequence_replyfirst, sequence_request, 0, "reply: first place"},
+    {sequence_replylast, sequence_request, 0, "reply: last place"},
+    {sequence_replynone, sequence_request, 0, "reply: no place"},
+    {sequence_latefirst, sequence_pings, 0, "late ping: first place"},
+    {sequence_latelast, sequence_pings, 0, "late ping: last place"},
+    {sequence_latenone, sequence_pings, 0, "late ping: no place"},
+    {sequence_errorfirst, sequence_request, 0, "error: first place"},
+    {sequence_errorlast, sequence_request, 0, "error: last place"},
+    {sequence_errornone, sequence_request, 0, "error: no place"},
+    {sequence_cancelfirst, sequence_request, 0, "cancel: first place"},
+    {sequence_cancellast, sequence_request, 0, "cancel: last place"},
+    {sequence_cancelnone, sequence_request, 0, "cancel: no place"},
+    {sequence_againfirst, sequence_request, 0, "11: first place"},
+    {sequence_againlast, sequence_request, 0, "11: last place"},
+    {sequence_roomfirst, sequence_setup, 0, "empty: first place"},
+    {sequence_roomlast, sequence_three, 0, "empty: last place"},
+    {sequence_roomnone, sequence_request, 0, "empty: no place (12)"},
 };
 enum { LINES = sizeof lines / sizeof lines[0] };
 
@@ -181,7 +201,42 @@ static void write_text(void)
     keep_store(&sequence);
 }
 
-enum { TURNS = 280, WAITING = 7 * 4 };
+enum { TURNS = 280, PORTS = 7, PLACES = 4, WAITING = PORTS * PLACES };
+
+static void add_waiting(struct sequence *sequence, int i, int place)
+{
+    add_request(sequence, port(i), (uint8_t)(0x10 + place), 0x21, 0x01, 0x02);
+}
+
+static void add_ping(struct sequence *sequence, int i, uint8_t byte3)
+{
+    add_request(sequence, port(i), 0x00, byte3, 0x00, 0x00)[CALL_HEAD + 2] = 0x5B;
+}
+
+/* On each port one search of the places that comes to the first, to the last, or to none of them. Of what is searched
+ * for in its three sequences, the first is in place 0, the second in place 3 and the third in no place. */
+static void add_searches(void)
+{
+    static const int sought[] = {0, PLACES - 1, PLACES};
+
+    for (int i = 0; i < PORTS; i++) {
+        uint8_t device = port(i);
+
+        for (int j = 0; j < 3; j++) {
+            uint8_t byte2 = (uint8_t)(0x10 + sought[j]);
+
+            TAKE_REPORT(&sequences[sequence_replyfirst + j], 0x10, device, byte2, 0x21, 0x05);
+            TAKE_REPORT(&sequences[sequence_errorfirst + j], 0x10, device, 0x8F, byte2, 0x21, 0x02);
+            add_cancel(&sequences[sequence_cancelfirst + j], device, byte2, 0x21);
+            TAKE_REPORT(&sequences[sequence_latefirst + j], 0x10, device, 0x00, (uint8_t)(0x11 + j), 0x02, 0x00, 0x5A);
+        }
+        add_waiting(&sequences[sequence_againfirst], i, 0);
+        add_waiting(&sequences[sequence_againlast], i, PLACES - 1);
+        add_waiting(&sequences[sequence_roomfirst], i, 0);
+        add_waiting(&sequences[sequence_roomlast], i, PLACES - 1);
+        add_waiting(&sequences[sequence_roomnone], i, PLACES);
+    }
+}
 
 static void write_sequences(void)
 {
@@ -198,25 +253,39 @@ static void write_sequences(void)
         add(&sequences[sequence_list], LIST);
         add_request(&sequences[sequence_serial], 0xFF, 0x83, 0xB5, 0x31, 0x00);
         TAKE_REPORT(&sequences[sequence_serial], 0x11, 0xFF, 0x83, 0xB5, 0x31, 0xFB, 0x84, 0x1B, 0x86);
-        add_request(&sequences[sequence_ping], 0x02, 0x00, 0x11, 0x00, 0x00)[CALL_HEAD + 2] = 0x5B;
+        add_ping(&sequences[sequence_ping], 1, 0x11);
         TAKE_REPORT(&sequences[sequence_ping], 0x10, 0x02, 0x00, 0x11, 0x02, 0x00, 0x5B);
         if (i == 0)
-            add_request(&sequences[sequence_late], 0x02, 0x00, 0x11, 0x00, 0x00)[CALL_HEAD + 2] = 0x5B;
+            add_ping(&sequences[sequence_late], 1, 0x11);
         else
             TAKE_REPORT(&sequences[sequence_late], 0x10, 0x02, 0x00, 0x11, 0x02, 0x00, 0x5A);
     }
     /* A request in every place of every port, and then what ends it. */
-    for (int sequence = sequence_request; sequence <= sequence_tick; sequence++)
+    for (int sequence = sequence_request; sequence <= sequence_roomnone; sequence++)
         for (int i = 0; i < WAITING; i++)
-            add_request(&sequences[sequence], port(i / 4), (uint8_t)(0x10 + i % 4), 0x21, 0x01, 0x02);
+            add_waiting(&sequences[sequence], i / PLACES, i % PLACES);
     for (int i = 0; i < WAITING; i++) {
-        uint8_t device = port(i / 4), byte2 = (uint8_t)(0x10 + i % 4);
+        uint8_t device = port(i / PLACES), byte2 = (uint8_t)(0x10 + i % PLACES);
 
         TAKE_REPORT(&sequences[sequence_reply], 0x10, device, byte2, 0x21, 0x05);
         TAKE_REPORT(&sequences[sequence_error], 0x10, device, 0x8F, byte2, 0x21, 0x02);
         add_cancel(&sequences[sequence_cancel], device, byte2, 0x21);
         add(&sequences[sequence_tick], TICK);
     }
+    /* All places but the last; and pings in the first and in the last. */
+    for (int i = 0; i < PORTS; i++) {
+        for (int place = 0; place < PLACES - 1; place++) {
+            add_waiting(&sequences[sequence_three], i, place);
+            add_waiting(&sequences[sequence_roomlast], i, place);
+        }
+        for (int sequence = sequence_pings; sequence <= sequence_latenone; sequence++) {
+            add_ping(&sequences[sequence], i, 0x11);
+            for (int place = 1; place < PLACES - 1; place++)
+                add_waiting(&sequences[sequence], i, place);
+            add_ping(&sequences[sequence], i, 0x12);
+        }
+    }
+    add_searches();
     for (int i = 0; i < SEQUENCE_COUNT; i++)
         add(&sequences[i], LIST);
 }
