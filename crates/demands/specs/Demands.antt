@@ -81,7 +81,7 @@ pub record Demands : Type 0 where
   -- A HID++ report ends at most one request on the port that it names, and on another port none but where it gives another serial of that device
   pub at-most-one : (st : Station) → Reached st → (bytes : List ℕ) → isHidppRead (readRule bytes) ≡ true → (i j : ℕ) → endsIn st bytes (byte bytes 1) i ≡ true → endsIn st bytes (byte bytes 1) j ≡ true → i ≡ j
   pub beside : (st : Station) → Reached st → (bytes : List ℕ) → isHidppRead (readRule bytes) ≡ true → (n : ℕ) → isPort n ≡ true → ¬ (byte bytes 1 ≡ n) → (i : ℕ) → (endsIn st bytes n i ≡ true) ↔ (Swaps st bytes n × (isEmpty (requestIn (portFor st n .places) i) ≡ false))
-  -- Every search over waiting places gives the lowest that matches, or none exactly when none does: of any places, two equal ones too and such as no call reaches. What that comes to at a port is in `of-the-rules` (`lowest`)
+  -- The three searches over waiting places, `port::first_match`, `port::first_empty` and `matching::first_answered`, give the lowest that matches, or none exactly when none does: of any places, two equal ones too and such as no call reaches. What that comes to at a port is in `of-the-rules` (`lowest`)
   pub searches : ProgramSearches
   -- A long reply on port 255 to the request for register B5 that waits with first parameter 0x30 + device − 1, with the same first parameter (`Gives`), gives that device's serial: where the device is paired, the port has it, and where a different one was known, the port is first made fresh but for pairing, WPID and bitfield; the answer counts the requests dropped so
   pub serials : (st : Station) → Reached st → (bytes : List ℕ) (r : TakeResult) → Ensured st (take bytes) (takeStep bytes (takeOutcome r)) → isHidppRead (readRule bytes) ≡ true → (n number : ℕ) → Gives (portFor st 255) (reportFrom hidppStart bytes) bytes n number → Told (portFor st n) (portFor (r .station) n) number (takenOf (r .answer))

@@ -1,4 +1,4 @@
--- Document 02, Ask 4, of the program: what its three searches over waiting places were proved to ensure, for any places. Each field cites a contract itself. All that a call looks for among waiting requests, it looks for by one of them.
+-- Document 02, Ask 4, of the program: what its three searches over waiting places were proved to ensure, for any places. Each field cites a contract itself. That a call searches by these is not stated here: what a call comes to is (`answers` of the demands, and `lowest` of what holds of the rules).
 use Prim.Native.Nat.{ℕ}
 use mathlib.Core.List.{List}
 use Rattle.report.specs.declared.FeatureIndex.{FeatureIndex}
