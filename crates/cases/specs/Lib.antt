@@ -4,3 +4,5 @@ pub mod SerialCases
 pub mod SerialCasesLaws
 pub mod PingCases
 pub mod PingCasesLaws
+pub mod PaddingCases
+pub mod PaddingCasesLaws

@@ -1,8 +1,10 @@
 -- Helpers of contracts: when the station may take its short way with a radio report.
 use Prim.Native.Nat.{ℕ}
 use mathlib.Core.Bool.{Bool, _&&_}
+use mathlib.Core.List.{List}
+use Rattle.dj.specs.Padding.{isClean}
 use Rattle.dj.specs.DjTaking.{isDeclared}
 
--- neither 7 nor 8 applies
-abbrev pub isAccepted : Bool → ℕ → ℕ → Bool
-isAccepted isPaired reports kind = isPaired && isDeclared reports kind
+-- none of 7, 8 and 17 applies
+abbrev pub isAccepted : Bool → ℕ → ℕ → ℕ → List ℕ → Bool
+isAccepted isPaired reports kind size bytes = isPaired && (isDeclared reports kind && isClean kind size bytes)

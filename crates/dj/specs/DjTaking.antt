@@ -1,9 +1,9 @@
--- Document 01, "Taking a DJ report", at the port that the report names.
+-- Document 01, "Taking a DJ report", and document 02, Ask 5, at the port that the report names.
 use Prim.Native.Nat.{ℕ, _+_}
 use mathlib.Core.Bool.{Bool, true, cond, not, _&&_}
 use mathlib.Core.List.{List}
 use lib.Dec.{ltb, eqb}
-use Rattle.report.specs.Refusals.{notPaired, notDeclared}
+use Rattle.report.specs.Refusals.{notPaired, notDeclared, dirtyPadding}
 use Rattle.report.specs.Sizes.{byte, bit, djStart, joined2, joined4}
 use Rattle.report.specs.Radio.{radioTypes, payloadLength}
 use Rattle.report.specs.Reading.{Report}
@@ -11,6 +11,7 @@ use Rattle.port.specs.declared.Port.{Port}
 use Rattle.port.specs.Records.{madeFresh, withPairing, withReports, withLink}
 use Rattle.port.specs.Places.{countWaiting}
 use Rattle.port.specs.Answers.{Answer, Result, refused, radio, notice, unpaired, paired, link, other}
+use Rattle.dj.specs.Padding.{isClean}
 
 -- the parameters p0.. by their number
 abbrev pub p : List ℕ → ℕ → ℕ
@@ -24,12 +25,13 @@ isDeclared reports kind = ltb kind radioTypes && bit kind reports
 abbrev pub radioAnswer : ℕ → ℕ → Answer
 radioAnswer kind size = radio kind djStart (payloadLength kind size)
 
--- a radio report with `size` bytes after its type: 7, 8, or that, and link up
-unfoldable pub radioRule : Port → ℕ → ℕ → Result
-radioRule port kind size =
+-- a radio report with `size` bytes after its type: 7, 8, 17, or that, and link up
+unfoldable pub radioRule : Port → ℕ → ℕ → List ℕ → Result
+radioRule port kind size bytes =
     cond (not (port .paired)) (record { answer = refused notPaired; port = port })
     (cond (not (isDeclared (port .reports) kind)) (record { answer = refused notDeclared; port = port })
-    (record { answer = radioAnswer kind size; port = withLink port true }))
+    (cond (not (isClean kind size bytes)) (record { answer = refused dirtyPadding; port = port })
+    (record { answer = radioAnswer kind size; port = withLink port true })))
 
 -- 0x40: the whole port is made fresh, and the answer says how many requests waited there
 unfoldable pub unpairedRule : Port → ℕ → Result
@@ -79,7 +81,7 @@ otherRule port device kind = record { answer = notice (other device kind); port 
 -- a radio report, or a notification that is no empty list
 unfoldable pub takeDj : Port → Report → List ℕ → Result
 takeDj port r bytes =
-    cond (ltb (r .byte2) 0x40) (radioRule port (r .byte2) (r .size))
+    cond (ltb (r .byte2) 0x40) (radioRule port (r .byte2) (r .size) bytes)
     (cond (eqb (r .byte2) 0x40) (unpairedRule port (r .device))
     (cond (eqb (r .byte2) 0x41) (pairedRule port (r .device) (isMore bytes) (wpidOf bytes) (reportsOf bytes))
     (cond (eqb (r .byte2) 0x42) (linkRule port (r .device) (isUp bytes))

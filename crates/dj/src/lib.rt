@@ -14,6 +14,8 @@ use report::DjReport;
 use report::Refusal;
 use report::radio;
 
+pub mod padding;
+
 // Whether the device said that it sends radio reports of this type.
 fn is_declared(reports: u32, kind: u8) -> bool
     ensures { λ r. ⌜ r ≡ isDeclared reports kind ⌝ }
@@ -24,14 +26,17 @@ fn is_declared(reports: u32, kind: u8) -> bool
     false
 }
 
-// Whether a radio report of this type is accepted from a device.
-pub fn is_accepted(paired: bool, reports: u32, kind: u8) -> bool
-    ensures accepted { λ r. ⌜ r ≡ isAccepted paired reports kind ⌝ }
+// Whether a radio report of this type, with `following` bytes after it, is accepted from a device.
+pub fn is_accepted(paired: bool, reports: u32, kind: u8, following: u8, bytes: &[u8]) -> bool
+    ensures accepted { λ r. ⌜ r ≡ isAccepted paired reports kind following (now (bytes .entry)) ⌝ }
 {
-    if paired {
-        return is_declared(reports, kind);
+    if !paired {
+        return false;
     }
-    false
+    if !is_declared(reports, kind) {
+        return false;
+    }
+    padding::is_clean(kind, following, bytes)
 }
 
 // The answer to a radio report that is accepted, with `following` bytes after its type.
@@ -47,8 +52,8 @@ pub fn radio_answer(kind: u8, following: u8) -> Taken
 }
 
 // A radio report with `following` bytes after its type.
-fn take_radio(port: Port, kind: u8, following: u8) -> PortTaken
-    ensures { λ r. ⌜ resultOf r ≡ radioRule port kind following ⌝ }
+fn take_radio(port: Port, kind: u8, following: u8, bytes: &[u8]) -> PortTaken
+    ensures { λ r. ⌜ resultOf r ≡ radioRule port kind following (now (bytes .entry)) ⌝ }
 {
     if !port.paired {
         return PortTaken {
@@ -59,6 +64,12 @@ fn take_radio(port: Port, kind: u8, following: u8) -> PortTaken
     if !is_declared(port.reports, kind) {
         return PortTaken {
             answer: Taken::Refused(Refusal::NotDeclared),
+            port,
+        };
+    }
+    if !padding::is_clean(kind, following, bytes) {
+        return PortTaken {
+            answer: Taken::Refused(Refusal::DirtyPadding),
             port,
         };
     }
@@ -179,7 +190,7 @@ pub fn take_at(port: Port, d: DjReport, bytes: &[u8]) -> PortTaken
     let kind = d.kind;
     let device = d.device;
     if kind < report::DJ_UNPAIRED {
-        return take_radio(port, kind, d.length);
+        return take_radio(port, kind, d.length, bytes);
     }
     match kind {
         report::DJ_UNPAIRED => take_unpaired(port, device),

@@ -23,6 +23,7 @@ use Rattle.matching.specs.Messages.{messageOf}
 use Rattle.hidpp.specs.HidppTaking.{takeHidpp}
 use Rattle.hidpp.specs.HidppTakingLaws.{of-each-answer}
 use Rattle.serial.specs.Serials.{Given, noSerial, serialOf, givenBy, serialRule}
+use Rattle.dj.specs.Padding.{isClean}
 use Rattle.dj.specs.DjTaking.{isDeclared, isPairedWith, radioRule, unpairedRule, wpidOf, reportsOf, pairedRule, linkRule, otherRule, takeDj}
 use Rattle.request.specs.Requesting.{isForbidden, RequestAt, requestBy, requestAt}
 use Rattle.listing.specs.Listing.{listingRule}
@@ -112,7 +113,8 @@ unfolding FitsTaken takeDj radioRule unpairedRule pairedRule linkRule otherRule
 dj-fits p r bytes b =
     by-case FitsResult (ltb (r .byte2) 0x40)
     (λ e. by-case FitsResult (not (p .paired)) (λ e. record { holds = tt })
-    (λ e. by-case FitsResult (not (isDeclared (p .reports) (r .byte2))) (λ e. record { holds = tt }) (λ e. record { holds = tt })))
+    (λ e. by-case FitsResult (not (isDeclared (p .reports) (r .byte2))) (λ e. record { holds = tt })
+    (λ e. by-case FitsResult (not (isClean (r .byte2) (r .size) bytes)) (λ e. record { holds = tt }) (λ e. record { holds = tt }))))
     (λ e. by-case FitsResult (eqb (r .byte2) 0x40) (λ e. record { holds = tt })
     (λ e. by-case FitsResult (eqb (r .byte2) 0x41)
     (λ e. by-case FitsResult (isPairedWith p (wpidOf bytes)) (λ e. record { holds = (wpid-below bytes b, reports-below bytes b) }) (λ e. record { holds = (wpid-below bytes b, reports-below bytes b) }))

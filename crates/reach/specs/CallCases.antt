@@ -1,11 +1,11 @@
--- Document 01, "Refusal numbers", "Writing", "Taking a HID++ report" and "Taking a DJ report", and document 02, Asks 1 to 3: which case a call falls into, and its whole outcome. Each case says all that it asks for, and so what the points before it left.
+-- Document 01, "Refusal numbers", "Writing", "Taking a HID++ report" and "Taking a DJ report", and document 02, Asks 1 to 3 and 5: which case a call falls into, and its whole outcome. Each case says all that it asks for, and so what the points before it left.
 use Prim.Native.Nat.{ℕ, _≤_, _<_}
 use mathlib.Core.Path.{_≡_}
 use mathlib.Core.Logic.{_↔_}
 use mathlib.Core.Bool.{true, false}
 use mathlib.Core.List.{List}
 use lib.ListN.{length}
-use Rattle.report.specs.Refusals.{noSuchPort, notPaired, notDeclared, forbidden, noRoom, alreadyWaiting, placesFull, notWaiting, otherEdition, brokenLine}
+use Rattle.report.specs.Refusals.{noSuchPort, notPaired, notDeclared, dirtyPadding, forbidden, noRoom, alreadyWaiting, placesFull, notWaiting, otherEdition, brokenLine}
 use Rattle.report.specs.Ports.{isPort}
 use Rattle.report.specs.Sizes.{softwareId}
 use Rattle.report.specs.Reading as reading
@@ -25,6 +25,7 @@ use Rattle.hidpp.specs.HidppRecords.{afterReply, afterError, afterEvent}
 use Rattle.hidpp.specs.HidppTaking.{about, carried, isError, named2, named3, code, errorFits, kindOf, isMajor1, takeHidpp}
 use Rattle.serial.specs.Serials.{SerialResult}
 use Rattle.serial.specs.Giving.{Gives}
+use Rattle.dj.specs.Dirty.{Dirty}
 use Rattle.dj.specs.DjTaking.{isDeclared, radioAnswer, isMore, wpidOf, reportsOf, isPairedWith, isUp}
 use Rattle.request.specs.Requesting.{isForbidden, waitingRequest, RequestAt, refusedAt, withWaiting, requestAt}
 use Rattle.store.specs.Stores.{Store}
@@ -136,16 +137,17 @@ module _ (p : Port) (r : Report) (bytes : List ℕ) where
   abbrev pub pairedNotice : ℕ → Answer
   pairedNotice dropped = notice (paired (r .device) (isMore bytes) (wpidOf bytes) (reportsOf bytes) dropped)
 
-  -- 7 and 8: a radio report, or 0x42
+  -- 7, 8 and 17: a radio report, or 0x42
   pub data DjRefused : ℕ → Type 0 where
     radioUnpaired : kind < 0x40 → p .paired ≡ false → DjRefused notPaired
     radioUndeclared : kind < 0x40 → p .paired ≡ true → isDeclared (p .reports) kind ≡ false → DjRefused notDeclared
+    radioDirty : kind < 0x40 → p .paired ≡ true → isDeclared (p .reports) kind ≡ true → Dirty kind bytes → DjRefused dirtyPadding
     linkUnpaired : kind ≡ 0x42 → p .paired ≡ false → DjRefused notPaired
 
   pub data DjCase : Result → Type 0 where
     djRefused : {number : ℕ} → DjRefused number → DjCase (gives (refused number) p)
     -- a radio report: its payload
-    radioTaken : kind < 0x40 → p .paired ≡ true → isDeclared (p .reports) kind ≡ true → DjCase (gives (radioAnswer kind (r .size)) (withLink p true))
+    radioTaken : kind < 0x40 → p .paired ≡ true → isDeclared (p .reports) kind ≡ true → ¬ Dirty kind bytes → DjCase (gives (radioAnswer kind (r .size)) (withLink p true))
     -- 0x40
     unpairs : kind ≡ 0x40 → DjCase (gives (notice (unpaired (r .device) (countWaiting (p .places)))) (madeFresh p))
     -- 0x41: paired with that WPID, or not

@@ -12,7 +12,8 @@ use borrow.Author.Tests.{leb-true, leb-false, eqb-true, eqb-false, ltb-true, ltb
 use Rattle.report.specs.ChoicesLaws.{by-case, both, in-range}
 use Rattle.report.specs.Refusals.{notWaiting}
 use Rattle.report.specs.Reading as reading
-use Rattle.report.specs.Reading.{Report, Read, readRule}
+use Rattle.report.specs.Sizes.{byte}
+use Rattle.report.specs.Reading.{Report, Read, goesDown, reportFrom, readRule}
 use Rattle.frame.specs.Writing as writing
 use Rattle.port.specs.declared.Port.{Port}
 use Rattle.port.specs.declared.Request.{Request}
@@ -33,6 +34,9 @@ use Rattle.hidpp.specs.HidppTaking.{carried, isError, errorFits, named2, named3
 use Rattle.serial.specs.Serials.{Given, noSerial, serialOf, givenBy, isAnother, SerialResult, serialRule}
 use Rattle.serial.specs.Giving.{Gives}
 use Rattle.serial.specs.GivingLaws.{no-serial, given-exactly}
+use Rattle.dj.specs.Padding.{isClean}
+use Rattle.dj.specs.Dirty.{Dirty}
+use Rattle.dj.specs.DirtyLaws.{dirty-exactly}
 use Rattle.dj.specs.DjTaking.{radioRule, unpairedRule, pairedRule, linkRule, otherRule, takeDj}
 use Rattle.request.specs.Requesting.{RequestAt, waitingRequest, requestBy, requestAt}
 use Rattle.restore.specs.Restoring.{StoreRead, storeOf, ofOther, brokenAt, readStore, restoredBy, restorePorts}
@@ -45,14 +49,10 @@ use Rattle.station.specs.StationTaking.{storedAt, alsoAt, takeBy, takeRule}
 use Rattle.station.specs.StationCalls.{RequestOutcome, requestedAt, requestRule, CancelOutcome, cancelledAt, cancelRule, restoredTo, restoreRule}
 use Rattle.sequence.specs.Steps.{Call, take, request, cancel, tick, write, restore, Outcome, takeStep, requestStep, cancelStep, restoreStep, step}
 use Rattle.reach.specs.ListsLaws.{passes-found}
-use Rattle.sequence.specs.ReadingsLaws.{above}
+use Rattle.sequence.specs.Readings.{ReadFits}
+use Rattle.sequence.specs.ReadingsLaws.{read-fits, above}
 use Rattle.reach.specs.SoundLaws.{empty-fails}
-use Rattle.reach.specs.CallCases.{Waits, Answered, Unasked, IsFailed, IsReply, IsStray, unnamed, otherPing, register, reserved, late, IsPlain, notification, major1, IsEvent, software0, HidppCase, givesFailed, givesReply, givesStray, givesPlain, givesEvent, gives, repliedPort, SerialCase, keepsNone, firstSerial, sameSerial, otherSerial, radioUnpaired, radioUndeclared, linkUnpaired, DjCase, djRefused, radioTaken, unpairs, pairedSame, pairedNew, linkSet, otherNotice, Writable, RequestRefused, is9, is10, is11, is12, RequestCase, requestRefused, accepted, CancelCase, refused13, cancelDone, StepCase, unread, listEmpty, hidppAtPort, serialAtPort, djAtPort, request5, requestAtPort, cancel5, cancelAtPort, tickAllPorts, writeOnly, restoreStore, restoreOther, restoreBroken, Placed, AllPlaced, ByCases, HidppAnswers, RequestAnswers, CancelAnswers}
-
--- joined with a false test
-pub and-false : (b : Bool) → (b && false) ≡ false
-and-false true = refl
-and-false false = refl
+use Rattle.reach.specs.CallCases.{Waits, Answered, Unasked, IsFailed, IsReply, IsStray, unnamed, otherPing, register, reserved, late, IsPlain, notification, major1, IsEvent, software0, HidppCase, givesFailed, givesReply, givesStray, givesPlain, givesEvent, gives, repliedPort, SerialCase, keepsNone, firstSerial, sameSerial, otherSerial, radioUnpaired, radioUndeclared, radioDirty, linkUnpaired, DjCase, djRefused, radioTaken, unpairs, pairedSame, pairedNew, linkSet, otherNotice, Writable, RequestRefused, is9, is10, is11, is12, RequestCase, requestRefused, accepted, CancelCase, refused13, cancelDone, StepCase, unread, listEmpty, hidppAtPort, serialAtPort, djAtPort, request5, requestAtPort, cancel5, cancelAtPort, tickAllPorts, writeOnly, restoreStore, restoreOther, restoreBroken, Placed, AllPlaced, ByCases, HidppAnswers, RequestAnswers, CancelAnswers}
 
 -- what is no true test is a false one
 pub not-so : (b : Bool) → ¬ (b ≡ true) → b ≡ false
@@ -218,9 +218,27 @@ module _ (p : Port) (placed : Placed p) (m : Message) where
         whenEvent = exactly givesEvent;
       }
 
-module _ (p : Port) (r : Report) (bytes : List ℕ) where
+-- what is read goes up, and has all its bytes
+dirty-read : (r : Report) (bytes : List ℕ) → readRule bytes ≡ reading.dj r → (isClean (r .byte2) (r .size) bytes ≡ false) ↔ Dirty (r .byte2) bytes
+unfolding reportFrom
+dirty-read r bytes e =
+    let fits = subst (ReadFits bytes) e (read-fits bytes) in
+    subst (λ (y : Report). goesDown (y .byte2) ≡ false → (isClean (y .byte2) (y .size) bytes ≡ false) ↔ Dirty (y .byte2) bytes) (sym (fits .1 .1))
+    (λ up. dirty-exactly (byte bytes 2) bytes (λ leds. true≢false (sym (ap goesDown leds) ∙ up))) (fits .0)
+
+module _ (p : Port) (r : Report) (bytes : List ℕ) (read : readRule bytes ≡ reading.dj r) where
   abbrev Dj : Result → Type 0
   Dj = DjCase p r bytes
+
+  dirty : Dirty (r .byte2) bytes → isClean (r .byte2) (r .size) bytes ≡ false
+  dirty = dirty-read r bytes read .1
+
+  clean : ¬ Dirty (r .byte2) bytes → isClean (r .byte2) (r .size) bytes ≡ true
+  clean n = go (isClean (r .byte2) (r .size) bytes) refl
+    where
+      go : (b : Bool) → isClean (r .byte2) (r .size) bytes ≡ b → b ≡ true
+      go true e = refl
+      go false e = absurd (n (dirty-read r bytes read .0 e))
 
   pub dj-case : DjCase p r bytes (takeDj p r bytes)
   unfolding takeDj radioRule unpairedRule pairedRule linkRule otherRule
@@ -229,7 +247,9 @@ module _ (p : Port) (r : Report) (bytes : List ℕ) where
       (λ e. let l = ltb-true _ _ e in by-case Dj _ (λ q. djRefused (radioUnpaired l (not-true _ q)))
       (λ q. by-case Dj _
       (λ z. djRefused (radioUndeclared l (not-false _ q) (not-true _ z)))
-      (λ z. radioTaken l (not-false _ q) (not-false _ z))))
+      (λ z. by-case Dj _
+      (λ y. djRefused (radioDirty l (not-false _ q) (not-false _ z) (dirty-read r bytes read .0 (not-true _ y))))
+      (λ y. radioTaken l (not-false _ q) (not-false _ z) (λ d. true≢false (sym (not-false _ y) ∙ dirty d))))))
       (λ e. by-case Dj _ (λ q. unpairs (eqb-true _ _ q))
       (λ q. by-case Dj _
       (λ z. by-case Dj _ (pairedSame (eqb-true _ _ z)) (pairedNew (eqb-true _ _ z)))
@@ -241,8 +261,9 @@ module _ (p : Port) (r : Report) (bytes : List ℕ) where
   unfolding takeDj radioRule unpairedRule pairedRule linkRule otherRule
   dj-only (djRefused (radioUnpaired l u)) = simp (lt-ltb, u)
   dj-only (djRefused (radioUndeclared l u d)) = simp (lt-ltb, u, d)
+  dj-only (djRefused (radioDirty l u d h)) = simp (lt-ltb, u, d, dirty h)
   dj-only (djRefused (linkUnpaired e u)) = simp (e, u)
-  dj-only (radioTaken l u d) = simp (lt-ltb, u, d)
+  dj-only (radioTaken l u d n) = simp (lt-ltb, u, d, clean n)
   dj-only (unpairs e) = simp e
   dj-only (pairedSame e s) = simp (e, s)
   dj-only (pairedNew e s) = simp (e, s)
@@ -382,7 +403,7 @@ module _ (st : Station) (placed : AllPlaced st) where
           let h = given-exactly p r bytes device number .0 q in
           subst (λ (x : Result). StepCase st (take bytes) (takeStep bytes (alsoAt st (serialOf device number) (storedAt st (positionOf (r .device)) x)))) (sym (reply-given p (at-port (r .device)) r bytes h))
           (serialAtPort e h (serial-case (portFor st device) number))
-  take-case {bytes} (reading.dj r) e = djAtPort e (dj-case _ r bytes)
+  take-case {bytes} (reading.dj r) e = djAtPort e (dj-case _ r bytes e)
 
   pub step-case : (c : Call) → StepCase st c (step st c)
   unfolding step takeRule requestRule cancelRule restoreRule restorePorts
@@ -427,7 +448,7 @@ module _ (st : Station) (placed : AllPlaced st) where
       stored : SerialResult → Outcome
       stored x = takeStep bytes (record { answer = carried (reply (x .dropped)) (messageOf r bytes); station = withPort (withPort st (positionOf (r .device)) (repliedPort (portFor st (r .device)) (messageOf r bytes))) (positionOf device) (x .port) })
   step-only (djAtPort {bytes} {r} e h) =
-      read-as e ∙ ap (λ (x : Result). takeStep bytes (storedAt st (positionOf (r .device)) x)) (dj-only _ r bytes h)
+      read-as e ∙ ap (λ (x : Result). takeStep bytes (storedAt st (positionOf (r .device)) x)) (dj-only _ r bytes e h)
   step-only (request5 e) = simp e
   step-only (requestAtPort {device} {byte2} {byte3} {ticks} {params} {offset} {lent} e h) =
       simp e (ap (λ (x : RequestAt). requestStep params (requestedAt st (positionOf device) x)) (request-only _ (at-port device) device byte2 byte3 ticks params offset lent h))

@@ -41,7 +41,7 @@ use Rattle.sequence.specs.NumbersLaws.{device-port, one-number}
 use Rattle.sequence.specs.IndependenceLaws.{stored, elsewhere}
 use Rattle.reach.specs.Sound.{SoundPlaces, Reached}
 use Rattle.reach.specs.SoundLaws.{reply-records, error-records, event-records}
-use Rattle.reach.specs.CallCases.{Waits, Answered, Unasked, failedPlace, repliedPlace, gives, IsStray, unnamed, otherPing, register, reserved, late, IsPlain, notification, major1, IsEvent, software0, HidppCase, givesFailed, givesReply, givesStray, givesPlain, givesEvent, radioUnpaired, radioUndeclared, linkUnpaired, DjCase, djRefused, radioTaken, unpairs, pairedSame, pairedNew, linkSet, otherNotice}
+use Rattle.reach.specs.CallCases.{Waits, Answered, Unasked, failedPlace, repliedPlace, gives, IsStray, unnamed, otherPing, register, reserved, late, IsPlain, notification, major1, IsEvent, software0, HidppCase, givesFailed, givesReply, givesStray, givesPlain, givesEvent, radioUnpaired, radioUndeclared, radioDirty, linkUnpaired, DjCase, djRefused, radioTaken, unpairs, pairedSame, pairedNew, linkSet, otherNotice}
 use Rattle.reach.specs.CallCasesLaws.{not-so, ping-no-error, answers-matches, answered-waits, serial-answered, hidpp-case, serial-case, dj-case}
 use Rattle.reach.specs.EndsLaws.{Emptied, hit, miss, answered-place, emptied-at, fresh-empty}
 use Rattle.reach.specs.Completion.{isReply, isFailure, isHidppRead, isFitting, OtherPing, makesFresh, answersRequest, swaps, readEnds, Swaps, Told, Completion}
@@ -152,8 +152,9 @@ module _ (p : Port) (r : Report) (bytes : List ℕ) (s : SoundPlaces (p .places)
   unfolding withLink withReports withPairing madeFresh
   dj-at (djRefused (radioUnpaired l u)) = dj-keeps refl refl (other-kind (omega arith) (omega arith)) refl
   dj-at (djRefused (radioUndeclared l u d)) = dj-keeps refl refl (other-kind (omega arith) (omega arith)) refl
+  dj-at (djRefused (radioDirty l u d n)) = dj-keeps refl refl (other-kind (omega arith) (omega arith)) refl
   dj-at (djRefused (linkUnpaired e u)) = dj-keeps refl refl (simp e) refl
-  dj-at (radioTaken l u d) = dj-keeps refl refl (other-kind (omega arith) (omega arith)) refl
+  dj-at (radioTaken l u d n) = dj-keeps refl refl (other-kind (omega arith) (omega arith)) refl
   dj-at (unpairs e) = dj-drops refl refl (simp e) refl
   dj-at (pairedSame e q) = dj-keeps refl refl (simp (e, q)) refl
   dj-at (pairedNew e q) = dj-drops refl refl (simp (e, q)) refl
@@ -215,7 +216,7 @@ hidpp-drops (givesEvent h) = refl
 
 dj-drops-none : {p : Port} {r : Report} {bytes : List ℕ} {x : Result} → DjCase p r bytes x → takenDrops (x .answer) ≡ 0
 dj-drops-none (djRefused h) = refl
-dj-drops-none (radioTaken l u d) = refl
+dj-drops-none (radioTaken l u d n) = refl
 dj-drops-none (unpairs e) = refl
 dj-drops-none (pairedSame e q) = refl
 dj-drops-none (pairedNew e q) = refl
@@ -468,7 +469,7 @@ module _ (st : Station) (k : Reached st) (bytes : List ℕ) where
   take-done (reading.hidpp r) e n =
       subst (λ (y : Report). readRule bytes ≡ reading.hidpp y → isPort (y .device) ≡ true → Done (takeBy (reading.hidpp y) bytes st .answer) (takeBy (reading.hidpp y) bytes st .station)) (sym (n .1 .1)) (λ z d. let c = hidpp-case own (places-of (byte bytes 1) .all) message in hidpp-done z d (hidpp-at _ _ (places-of (byte bytes 1)) c) (hidpp-drops c)) e (n .0)
   take-done (reading.dj r) e n =
-      subst (λ (y : Report). readRule bytes ≡ reading.dj y → isPort (y .device) ≡ true → Done (takeDj (view (y .device) st) y bytes .answer) (withPort st (positionOf (y .device)) (takeDj (view (y .device) st) y bytes .port))) (sym (n .1 .1)) (λ z d. let c = dj-case own (reportFrom djStart bytes) bytes in dj-done z d (dj-at _ (reportFrom djStart bytes) bytes (places-of (byte bytes 1)) c) (dj-drops-none c)) e (dj-port (r .device) (r .byte2) (n .1 .0))
+      subst (λ (y : Report). readRule bytes ≡ reading.dj y → isPort (y .device) ≡ true → Done (takeDj (view (y .device) st) y bytes .answer) (withPort st (positionOf (y .device)) (takeDj (view (y .device) st) y bytes .port))) (sym (n .1 .1)) (λ z d. let c = dj-case own (reportFrom djStart bytes) bytes z in dj-done z d (dj-at _ (reportFrom djStart bytes) bytes (places-of (byte bytes 1)) c) (dj-drops-none c)) e (dj-port (r .device) (r .byte2) (n .1 .0))
 
   pub completion : Completion st bytes (takeRule st bytes .answer) (takeRule st bytes .station)
   unfolding takeRule

@@ -1,7 +1,7 @@
 -- Document 01, "Writing", "Taking a HID++ report" and "Taking a DJ report": what a call makes of each place of its port, and that its answer counts the places emptied.
 use Prim.Native.Nat.{ℕ, zero, suc, _+_, _≤_, _<_}
 use mathlib.Core.Path.{_≡_, refl, sym, _∙_, ap, subst}
-use mathlib.Core.Bool.{Bool, true, false, cond, not, _&&_, true≢false, false≢true}
+use mathlib.Core.Bool.{Bool, true, false, cond, not, _&&_, and-false, true≢false, false≢true}
 use mathlib.Core.List.{List, [], _∷_}
 use native.Mathlib.Omega.{arith}
 use native.Mathlib.Decide.{ℕ-discrete}
@@ -27,7 +27,7 @@ use Rattle.reach.specs.ListsLaws.{sum-set, each-replicate}
 use Rattle.reach.specs.Sound.{SoundPlaces}
 use Rattle.reach.specs.SoundLaws.{empty-fails, reply-records, error-records, event-records}
 use Rattle.reach.specs.CallCases.{Waits, Answered, failedPlace, repliedPlace, HidppCase, givesFailed, givesReply, givesStray, givesPlain, givesEvent, repliedPort, SerialCase, keepsNone, firstSerial, sameSerial, otherSerial, DjCase, djRefused, radioTaken, unpairs, pairedSame, pairedNew, linkSet, otherNotice, CancelCase, refused13, cancelDone, Placed}
-use Rattle.reach.specs.CallCasesLaws.{and-false, not-so, passes-there, none-answers, answers-matches, answered-waits}
+use Rattle.reach.specs.CallCasesLaws.{not-so, passes-there, none-answers, answers-matches, answered-waits}
 use Rattle.reach.specs.Ends.{Way, byReply, byError, byExpiry, byCancel, byDrop, wayNumber, isWay, Ending, nothing, one, dropped, expired, takeEnding, cancelEnding, endsBy, oneIf, endedBy, endedInAll, waitingOn}
 
 -- sums over the places
@@ -272,7 +272,7 @@ module _ (p : Port) (s : SoundPlaces (p .places)) where
   pub dj-ends : {r : Report} {bytes : List ℕ} {x : Result} → DjCase p r bytes x → EndingAt (r .device) (takeEnding (r .device) bytes (x .answer)) p (x .port)
   unfolding withLink withReports withPairing madeFresh
   dj-ends (djRefused h) = elsewhere _ p _ nothing tt refl
-  dj-ends (radioTaken l u d) = elsewhere _ p _ nothing tt refl
+  dj-ends (radioTaken l u d n) = elsewhere _ p _ nothing tt refl
   dj-ends (unpairs e) = drops-all _ p _ s refl
   dj-ends (pairedSame e q) = drops-none _ p _ refl
   dj-ends (pairedNew e q) = drops-all _ p _ s refl
@@ -294,7 +294,7 @@ hidpp-apart n bytes (givesEvent h) e = tt
 
 pub dj-apart : (n : ℕ) {p : Port} {r : Report} {bytes : List ℕ} {x : Result} → DjCase p r bytes x → eqb (r .device) n ≡ false → Elsewhere n (takeEnding n bytes (x .answer))
 dj-apart n (djRefused h) e = tt
-dj-apart n (radioTaken l u d) e = tt
+dj-apart n (radioTaken l u d n) e = tt
 dj-apart n (unpairs q) e = simp e
 dj-apart n (pairedSame q z) e = simp e
 dj-apart n (pairedNew q z) e = simp e

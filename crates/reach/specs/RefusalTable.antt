@@ -1,4 +1,4 @@
--- Document 01, "Refusal numbers", and document 02, Ask 3: the table, row by row, each row with what the checks before it leave: a call is refused with a number exactly when one of its rows with that number holds.
+-- Document 01, "Refusal numbers", and document 02, Asks 3 and 5: the table, row by row, each row with what the checks before it leave: a call is refused with a number exactly when one of its rows with that number holds.
 use Prim.Native.Nat.{ℕ, _<_}
 use mathlib.Core.Path.{_≡_}
 use mathlib.Core.Logic.{_↔_}
@@ -45,7 +45,7 @@ LacksRoom size offset lent = fitsAt size offset (length lent) ≡ false
 
 -- the rows that hold
 pub data RefusalRow (st : Station) : Call → ℕ → Type 0 where
-  -- take: 1 to 6 by the bytes; 7 and 8 at the port
+  -- take: 1 to 6 by the bytes; 7, 8 and 17 at the port
   byBytes : {bytes : List ℕ} {number : ℕ} → ReadRefused bytes number → RefusalRow st (take bytes) number
   byPort : {bytes : List ℕ} {number : ℕ} → readRule bytes ≡ reading.dj (reportFrom djStart bytes) → DjRefused (portFor st (byte bytes 1)) (reportFrom djStart bytes) bytes number → RefusalRow st (take bytes) number
   -- request: 5; 9, 10, 11, 12 at the port

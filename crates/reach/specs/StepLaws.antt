@@ -1,7 +1,7 @@
 -- Document 01, "Writing" and "Sequences of calls", and document 02, Asks 1 and 3: what a call comes to on the station, port by port, and what calls reach.
 use Prim.Native.Nat.{ℕ, _+_, _-_, _<_}
 use mathlib.Core.Path.{_≡_, refl, sym, _∙_, ap, subst}
-use mathlib.Core.Bool.{Bool, true, false, cond, _&&_, _||_, true≢false}
+use mathlib.Core.Bool.{Bool, true, false, cond, _&&_, _||_, and-false, true≢false}
 use mathlib.Core.List.{List, [], _∷_, map}
 use native.Mathlib.Decide.{ℕ-discrete}
 use native.Mathlib.Omega.{arith}
@@ -52,7 +52,7 @@ use Rattle.reach.specs.SoundLaws.{sound-ticks}
 use Rattle.reach.specs.StartLaws.{start-port, stored-sound, stored-places}
 use Rattle.reach.specs.SoundCallsLaws.{allowed, hidpp-sound, serial-sound, dj-sound, request-sound, cancel-sound}
 use Rattle.reach.specs.CallCases.{Answered, Placed, HidppCase, givesReply, gives, repliedPort, SerialCase, RequestCase, requestRefused, accepted, StepCase, unread, listEmpty, hidppAtPort, serialAtPort, djAtPort, request5, requestAtPort, cancel5, cancelAtPort, tickAllPorts, writeOnly, restoreStore, restoreOther, restoreBroken, AllPlaced}
-use Rattle.reach.specs.CallCasesLaws.{and-false, serial-answered, empty-place, step-case}
+use Rattle.reach.specs.CallCasesLaws.{serial-answered, empty-place, step-case}
 use Rattle.reach.specs.Ends.{isTick, takeEnding, Way, byReply, byError, byExpiry, byCancel, byDrop, isWay, Ending, endingOf, nothing, dropped, endsBy, oneIf, begunOn, Fate, stays, lowered, filled, emptied, waitingOn, EndsAt, endedIn, begunIn, Accounted}
 use Rattle.reach.specs.EndsLaws.{Elsewhere, sum-zero, Change, same, empties, EndingAt, elsewhere as ends-elsewhere, reply-ends, hidpp-ends, serial-ends, dj-ends, cancel-ends, hidpp-apart, dj-apart, cancel-apart}
 use Rattle.reach.specs.Fields.{Field, places, is, takeLists, serialLists, ChangesListed, Same}

@@ -1,4 +1,4 @@
--- Document 01, "Refusal numbers", and document 02, Ask 3 (15 and 16).
+-- Document 01, "Refusal numbers", and document 02, Asks 3 (15 and 16) and 5 (17).
 use Prim.Native.Nat.{ℕ}
 
 -- take: the report has no byte
@@ -64,3 +64,7 @@ otherEdition = 15
 -- restore: a line breaks the rules of a store; this refusal comes with the line's number
 abbrev pub brokenLine : ℕ
 brokenLine = 16
+
+-- take: a byte behind the payload of a radio report is not zero
+abbrev pub dirtyPadding : ℕ
+dirtyPadding = 17

@@ -1,6 +1,6 @@
 -- Helpers of contracts: the program's refusals and readings, in the terms of the rules.
 use Prim.Native.Nat.{ℕ}
-use Rattle.report.specs.Refusals.{emptyReport, unknownId, wrongLength, downOnly, noSuchPort, reservedSubId, notPaired, notDeclared, forbidden, noRoom, alreadyWaiting, placesFull, notWaiting, reservedBits, otherEdition, brokenLine}
+use Rattle.report.specs.Refusals.{emptyReport, unknownId, wrongLength, downOnly, noSuchPort, reservedSubId, notPaired, notDeclared, forbidden, noRoom, alreadyWaiting, placesFull, notWaiting, reservedBits, otherEdition, brokenLine, dirtyPadding}
 use Rattle.report.specs.Reading.{Report, Read, refused, hidpp, dj, emptyList}
 use Rattle.report.specs.declared.Refusal.{Refusal}
 use Rattle.report.specs.declared.Refusal.the-variants as refusals
@@ -27,6 +27,7 @@ numberOf refusals.NotWaiting = notWaiting
 numberOf refusals.ReservedBits = reservedBits
 numberOf refusals.OtherEdition = otherEdition
 numberOf refusals.BrokenLine = brokenLine
+numberOf refusals.DirtyPadding = dirtyPadding
 
 -- what the program holds of a HID++ report, and of a DJ report, whose byte 2 is the type and byte 3 the first parameter
 abbrev pub hidppOf : HidppReport → Report

@@ -33,6 +33,7 @@ pub enum Refusal {
     ReservedBits,
     OtherEdition,
     BrokenLine,
+    DirtyPadding,
 }
 
 impl Refusal {
@@ -57,6 +58,7 @@ impl Refusal {
             Refusal::ReservedBits => 14,
             Refusal::OtherEdition => 15,
             Refusal::BrokenLine => 16,
+            Refusal::DirtyPadding => 17,
         }
     }
 }

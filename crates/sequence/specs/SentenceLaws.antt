@@ -19,6 +19,7 @@ use Rattle.matching.specs.Messages.{messageOf}
 use Rattle.hidpp.specs.HidppTaking.{takeHidpp}
 use Rattle.hidpp.specs.HidppTakingLaws.{of-each-answer}
 use Rattle.serial.specs.Serials.{Given, noSerial, serialOf, givenBy, serialRule}
+use Rattle.dj.specs.Padding.{isClean}
 use Rattle.dj.specs.DjTaking.{isDeclared, wpidOf, isPairedWith, radioRule, unpairedRule, pairedRule, linkRule, otherRule, takeDj}
 use Rattle.request.specs.Requesting.{isForbidden, RequestAt, refusedAt, waitingRequest, requestBy, requestAt}
 use Rattle.listing.specs.Listing.{listingRule}
@@ -71,7 +72,8 @@ module _ (p : Port) where
   dj-kind r bytes =
       by-case TakeKind (ltb (r .byte2) 0x40)
       (λ e. by-case TakeKind (not (p .paired)) (λ q. refuses refl)
-      (λ q. by-case TakeKind (not (isDeclared (p .reports) (r .byte2))) (λ z. refuses refl) (λ z. answers refl refl)))
+      (λ q. by-case TakeKind (not (isDeclared (p .reports) (r .byte2))) (λ z. refuses refl)
+      (λ z. by-case TakeKind (not (isClean (r .byte2) (r .size) bytes)) (λ y. refuses refl) (λ y. answers refl refl))))
       (λ e. by-case TakeKind (eqb (r .byte2) 0x40) (λ q. answers refl refl)
       (λ q. by-case TakeKind (eqb (r .byte2) 0x41)
       (λ z. by-case TakeKind (isPairedWith p (wpidOf bytes)) (λ y. answers refl refl) (λ y. answers refl refl))

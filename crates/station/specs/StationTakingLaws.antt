@@ -99,7 +99,7 @@ module _ (st : Station) (bytes : List ℕ) where
       ∙ take-read e
 
   -- a radio report that is accepted: the port's link is set, and nothing else
-  pub take-radio : (d : DjReport) (a : Taken) {position : ℕ} → reading.readRule bytes ≡ readingOf (Dj d) → position ≡ positionOf (d .device .0) → isAccepted (portAt st position .paired) (portAt st position .reports) (d .kind) ≡ true → takenOf a ≡ radioAnswer (d .kind) (d .length) → takeOutcome (record { answer = a; station = record { ports = set (st .ports) position (withLink (portAt st position) true) } }) ≡ takeRule st bytes
+  pub take-radio : (d : DjReport) (a : Taken) {position : ℕ} → reading.readRule bytes ≡ readingOf (Dj d) → position ≡ positionOf (d .device .0) → isAccepted (portAt st position .paired) (portAt st position .reports) (d .kind) (d .length) bytes ≡ true → takenOf a ≡ radioAnswer (d .kind) (d .length) → takeOutcome (record { answer = a; station = record { ports = set (st .ports) position (withLink (portAt st position) true) } }) ≡ takeRule st bytes
   take-radio d a {position} e p h q =
       take-dj d (record { answer = a; port = withLink (portAt st position) true }) e p
       (ap (λ (x : Answer). result x) q ∙ take-accepted (portAt st position) (djOf d) bytes h)

@@ -96,7 +96,7 @@ wide-serial p w number h (otherSerial known e q z) = record { model = w .model; 
 wide-dj : (p : Port) → WidePort p → (r : Report) (bytes : List ℕ) → ((i : ℕ) → byte bytes i < 256) → {x : Result} → DjCase p r bytes x → WidePort (x .port)
 unfolding withLink withReports withPairing madeFresh freshPort
 wide-dj p w r bytes h (djRefused e) = w
-wide-dj p w r bytes h (radioTaken e q z) = w
+wide-dj p w r bytes h (radioTaken e q z n) = w
 wide-dj p w r bytes h (unpairs e) = wide-fresh
 wide-dj p w r bytes h (pairedSame e q) =
     record { model = w .model; told = w .told; types = omega (arith, h 6, h 7, h 8, h 9); spoken = w .spoken }
