@@ -12,3 +12,4 @@ pub mod serials;
 pub mod station;
 pub mod store;
 pub mod stores;
+pub mod tally;

@@ -11,7 +11,7 @@ use oracle::count::Tally;
 use oracle::encoded::run_all;
 use oracle::random::{write_runs, write_script};
 use oracle::script::{replay, Failure};
-use oracle::{pings, serials, stores};
+use oracle::{pings, serials, stores, tally};
 
 const USAGE: &str = "\
 usage: oracle replay [FILE]
@@ -31,9 +31,9 @@ fn main() -> ExitCode {
         [name, file] if *name == "replay" => replay_file(file),
         [name, seed, count] if *name == "random" => random(seed, count),
         [name, file] if *name == "count" => count(file),
-        [name, file] if *name == "serials" => count_serials(file),
-        [name, file] if *name == "pings" => count_pings(file),
-        [name, file] if *name == "stores" => count_stores(file),
+        [name, file] if *name == "serials" => count_calls::<serials::Tally>(file),
+        [name, file] if *name == "pings" => count_calls::<pings::Tally>(file),
+        [name, file] if *name == "stores" => count_calls::<stores::Tally>(file),
         [name, seed, count] if *name == "encoded-random" => random_runs(seed, count),
         [name, file] if *name == "encoded" => run_file(file),
         _ => Err(USAGE.to_owned()),
@@ -92,24 +92,12 @@ fn count(file: &OsStr) -> Result<ExitCode, String> {
     show(|output| tally.print(output), tally.is_complete())
 }
 
-fn count_serials(file: &OsStr) -> Result<ExitCode, String> {
-    let tally = serials::Tally::read(open(file)?).map_err(|failure| unread(file, failure))?;
+fn count_calls<T: tally::Tally>(file: &OsStr) -> Result<ExitCode, String> {
+    let tally = T::read(open(file)?).map_err(|failure| {
+        let (Failure::Input(error) | Failure::Output(error)) = failure;
+        failed(&file.to_string_lossy(), &error)
+    })?;
     show(|output| tally.print(output), tally.is_complete())
-}
-
-fn count_pings(file: &OsStr) -> Result<ExitCode, String> {
-    let tally = pings::Tally::read(open(file)?).map_err(|failure| unread(file, failure))?;
-    show(|output| tally.print(output), tally.is_complete())
-}
-
-fn count_stores(file: &OsStr) -> Result<ExitCode, String> {
-    let tally = stores::Tally::read(open(file)?).map_err(|failure| unread(file, failure))?;
-    show(|output| tally.print(output), tally.is_complete())
-}
-
-fn unread(file: &OsStr, failure: Failure) -> String {
-    let (Failure::Input(error) | Failure::Output(error)) = failure;
-    failed(&file.to_string_lossy(), &error)
 }
 
 /// Prints what was counted.

@@ -1,10 +1,9 @@
 //! Counts how often the calls of a script answer a ping, and how often they
-//! only seem to. Answers alone don't show it, so the calls are made.
+//! only seem to.
 
-use std::io::{self, BufRead, Write};
-
-use crate::script::{for_each_call, Answer, Call, Failure};
+use crate::script::{Answer, Call};
 use crate::station::{ErrorKind, Key, Outcome, PortNumber, Refusal, Station, Taken, Waiting};
+use crate::tally::{self, Row};
 
 type Test = fn(&Seen) -> bool;
 
@@ -293,36 +292,24 @@ impl Default for Tally {
     }
 }
 
+impl tally::Tally for Tally {
+    fn add(&mut self, [before, after]: [&Station; 2], call: &Call, answer: &Answer) {
+        self.add_seen(before, call, answer);
+        self.follow(call, answer, after);
+    }
+
+    fn rows(&self) -> Vec<Row> {
+        let by_port = BY_PORT.iter().zip(&self.by_port);
+        let by_port = by_port.map(|((_, name), ports)| Row::by(format!("{name}; by port"), ports));
+        let kinds = KINDS.iter().zip(self.kinds);
+        by_port
+            .chain(kinds.map(|((_, name, _), count)| Row::one(name, count)))
+            .collect()
+    }
+}
+
 impl Tally {
-    /// Makes the calls of a script on one station that starts fresh.
-    pub fn read(input: impl BufRead) -> Result<Tally, Failure> {
-        let mut tally = Tally::default();
-        for_each_call(input, |[before, after], call, answer| {
-            tally.add(before, call, answer);
-            tally.follow(call, answer, after);
-        })?;
-        Ok(tally)
-    }
-
-    /// Whether everything occurred, and on every port what is counted so.
-    pub fn is_complete(&self) -> bool {
-        let mut counts = self.by_port.iter().flatten().chain(&self.kinds);
-        counts.all(|&count| count > 0)
-    }
-
-    pub fn print(&self, mut output: impl Write) -> io::Result<()> {
-        for ((_, name), ports) in BY_PORT.iter().zip(self.by_port) {
-            let count: u64 = ports.iter().sum();
-            let ports = ports.map(|count| count.to_string()).join(" ");
-            writeln!(output, "{count:>9}  {name}; by port: {ports}")?;
-        }
-        for ((_, name, _), count) in KINDS.iter().zip(self.kinds) {
-            writeln!(output, "{count:>9}  {name}")?;
-        }
-        Ok(())
-    }
-
-    fn add(&mut self, before: &Station, call: &Call, answer: &Answer) {
+    fn add_seen(&mut self, before: &Station, call: &Call, answer: &Answer) {
         let Some((port, key, parameters)) = named(call, answer) else {
             return;
         };

@@ -1,10 +1,9 @@
 //! Counts how often the calls of a script tell a serial, and how often they
-//! only seem to. Answers alone don't show it, so the calls are made.
+//! only seem to.
 
-use std::io::{self, BufRead, Write};
-
-use crate::script::{for_each_call, Answer, Call, Failure};
+use crate::script::{Answer, Call};
 use crate::station::{asked_serial, Key, Notice, Outcome, PortNumber, Station, Taken};
+use crate::tally::{self, Row};
 
 /// What a told serial did, counted for each device.
 pub const TOLD: [&str; 4] = [
@@ -36,38 +35,24 @@ pub struct Tally {
     nearly: [u64; NEARLY.len()],
 }
 
+impl tally::Tally for Tally {
+    fn add(&mut self, stations: [&Station; 2], call: &Call, answer: &Answer) {
+        if let (Call::Take(report), Answer::Taken(taken)) = (call, answer) {
+            self.add_taken(stations, report, taken);
+        }
+    }
+
+    fn rows(&self) -> Vec<Row> {
+        let told = TOLD.iter().zip(&self.told);
+        let told = told.map(|(kind, devices)| Row::by(format!("{kind}; by device"), devices));
+        let nearly = NEARLY.iter().zip(self.nearly);
+        told.chain(nearly.map(|(kind, count)| Row::one(kind, count)))
+            .collect()
+    }
+}
+
 impl Tally {
-    /// Makes the calls of a script on one station that starts fresh.
-    pub fn read(input: impl BufRead) -> Result<Tally, Failure> {
-        let mut tally = Tally::default();
-        for_each_call(input, |[before, after], call, answer| {
-            if let (Call::Take(report), Answer::Taken(taken)) = (call, answer) {
-                tally.add(before, report, taken, after);
-            }
-        })?;
-        Ok(tally)
-    }
-
-    /// Whether everything occurred, and every device's serial was told in
-    /// every way.
-    pub fn is_complete(&self) -> bool {
-        let mut counts = self.told.iter().flatten().chain(&self.nearly);
-        counts.all(|&count| count > 0)
-    }
-
-    pub fn print(&self, mut output: impl Write) -> io::Result<()> {
-        for (kind, devices) in TOLD.iter().zip(self.told) {
-            let count: u64 = devices.iter().sum();
-            let devices = devices.map(|count| count.to_string()).join(" ");
-            writeln!(output, "{count:>9}  {kind}; by device: {devices}")?;
-        }
-        for (kind, count) in NEARLY.iter().zip(self.nearly) {
-            writeln!(output, "{count:>9}  {kind}")?;
-        }
-        Ok(())
-    }
-
-    fn add(&mut self, before: &Station, report: &[u8], taken: &Taken, after: &Station) {
+    fn add_taken(&mut self, [before, after]: [&Station; 2], report: &[u8], taken: &Taken) {
         match *taken {
             Taken::Hidpp {
                 outcome, port, key, ..

@@ -1,12 +1,10 @@
 //! Counts which stores the calls of a script write and read, and in which ways
-//! those that are refused break the rules. Answers alone don't show it, so the
-//! calls are made.
+//! those that are refused break the rules.
 
-use std::io::{self, BufRead, Write};
-
-use crate::script::{for_each_call, Answer, Call, Failure, MOST_STORE};
+use crate::script::{Answer, Call, MOST_STORE};
 use crate::station::{FeatureIndex, Link, Port, PortNumber, Refusal, Station};
 use crate::store::{read_store, Unread, HEADER};
+use crate::tally::{self, Row};
 
 type Test = fn(&Seen) -> bool;
 
@@ -434,36 +432,17 @@ impl Default for Tally {
     }
 }
 
-impl Tally {
-    /// Makes the calls of a script on one station that starts fresh.
-    pub fn read(input: impl BufRead) -> Result<Tally, Failure> {
-        let mut tally = Tally::default();
-        for_each_call(input, |stations, call, answer| {
-            tally.add(stations, call, answer)
-        })?;
-        Ok(tally)
-    }
-
-    /// Whether everything occurred, and with every number what is counted so.
-    pub fn is_complete(&self) -> bool {
-        let rows = BY_NUMBER.iter().zip(&self.by_number);
-        let mut counts = rows
-            .flat_map(|((_, _, range), counts)| &counts[..range.clone().count()])
-            .chain(&self.kinds);
-        counts.all(|&count| count > 0)
-    }
-
-    pub fn print(&self, mut output: impl Write) -> io::Result<()> {
-        for ((_, name, range), counts) in BY_NUMBER.iter().zip(self.by_number) {
+impl tally::Tally for Tally {
+    fn rows(&self) -> Vec<Row> {
+        let by_number = BY_NUMBER.iter().zip(&self.by_number);
+        let by_number = by_number.map(|((_, name, range), counts)| {
             let counts = &counts[..range.clone().count()];
-            let each: Vec<String> = counts.iter().map(u64::to_string).collect();
-            let count: u64 = counts.iter().sum();
-            writeln!(output, "{count:>9}  {name}: {}", each.join(" "))?;
-        }
-        for ((_, name, _), count) in KINDS.iter().zip(self.kinds) {
-            writeln!(output, "{count:>9}  {name}")?;
-        }
-        Ok(())
+            Row::by(*name, counts)
+        });
+        let kinds = KINDS.iter().zip(self.kinds);
+        by_number
+            .chain(kinds.map(|((_, name, _), count)| Row::one(name, count)))
+            .collect()
     }
 
     fn add(&mut self, stations: [&Station; 2], call: &Call, answer: &Answer) {

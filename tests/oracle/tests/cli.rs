@@ -68,42 +68,23 @@ fn count_fails_where_something_never_occurs() {
 }
 
 #[test]
-fn serials_fails_where_something_never_occurs() {
+fn counts_of_calls_fail_where_something_never_occurs() {
     let script = oracle(&["random", "5", "50000"], b"").stdout;
-    let path = file("told.script", &script);
-    let output = oracle(&["serials", path.to_str().unwrap()], b"");
-    assert!(output.status.success());
-    let path = file("untold.script", b"tick\n");
-    let output = oracle(&["serials", path.to_str().unwrap()], b"");
-    assert!(!output.status.success());
-    let first = b"        0  serial became known; by device: 0 0 0 0 0 0\n";
-    assert!(output.stdout.starts_with(first));
-}
-
-#[test]
-fn pings_fails_where_something_never_occurs() {
-    let script = oracle(&["random", "5", "50000"], b"").stdout;
-    let path = file("answered.script", &script);
-    let output = oracle(&["pings", path.to_str().unwrap()], b"");
-    assert!(output.status.success());
-    let path = file("unanswered.script", b"tick\n");
-    let output = oracle(&["pings", path.to_str().unwrap()], b"");
-    assert!(!output.status.success());
-    let first = b"        0  ping answered; by port: 0 0 0 0 0 0 0\n";
-    assert!(output.stdout.starts_with(first));
-}
-
-#[test]
-fn stores_fails_where_something_never_occurs() {
-    let script = oracle(&["random", "5", "50000"], b"").stdout;
-    let path = file("stored.script", &script);
-    let output = oracle(&["stores", path.to_str().unwrap()], b"");
-    assert!(output.status.success());
-    let path = file("unstored.script", b"tick\n");
-    let output = oracle(&["stores", path.to_str().unwrap()], b"");
-    assert!(!output.status.success());
-    let first = b"        0  store written; by devices, 0 to 6: 0 0 0 0 0 0 0\n";
-    assert!(output.stdout.starts_with(first));
+    let many = file("many-calls.script", &script);
+    let few = file("few-calls.script", b"tick\n");
+    let first_lines = [
+        ("serials", "serial became known; by device: 0 0 0 0 0 0"),
+        ("pings", "ping answered; by port: 0 0 0 0 0 0 0"),
+        ("stores", "store written; by devices, 0 to 6: 0 0 0 0 0 0 0"),
+    ];
+    for (name, first) in first_lines {
+        let output = oracle(&[name, many.to_str().unwrap()], b"");
+        assert!(output.status.success(), "{name}");
+        let output = oracle(&[name, few.to_str().unwrap()], b"");
+        assert!(!output.status.success(), "{name}");
+        let first = format!("        0  {first}\n");
+        assert!(output.stdout.starts_with(first.as_bytes()), "{name}");
+    }
 }
 
 #[test]

@@ -9,7 +9,7 @@ use oracle::random::{write_script, Generator};
 use oracle::script::{make, parse, Answer, Call, Line, LENT};
 use oracle::station::{asked_serial, Outcome, PortNumber, Station, Taken};
 use oracle::store::read_store;
-use oracle::{pings, serials, stores};
+use oracle::{pings, serials, stores, tally};
 
 fn script(seed: u64, count: u64) -> Vec<u8> {
     let mut script = Vec::new();
@@ -74,37 +74,33 @@ fn every_kind_of_answer_occurs() {
     }
 }
 
+fn everything_occurs<T: tally::Tally>() {
+    for seed in 1..=5 {
+        let tally = T::read(&script(seed, 50_000)[..]).expect("memory can be read");
+        let mut text = Vec::new();
+        tally.print(&mut text).expect("memory can be written");
+        assert!(tally.is_complete(), "{}", String::from_utf8_lossy(&text));
+    }
+    assert!(!T::default().is_complete());
+}
+
 /// Of every device, in every way, and nearly in every way.
 #[test]
 fn serials_are_told() {
-    for seed in 1..=5 {
-        let tally = serials::Tally::read(&script(seed, 50_000)[..]).expect("memory can be read");
-        assert!(tally.is_complete(), "{tally:?}");
-    }
-    assert!(!serials::Tally::default().is_complete());
+    everything_occurs::<serials::Tally>();
 }
 
 /// On every port, and nearly in every way.
 #[test]
 fn pings_are_answered() {
-    for seed in 1..=5 {
-        let tally = pings::Tally::read(&script(seed, 50_000)[..]).expect("memory can be read");
-        assert!(tally.is_complete(), "{tally:?}");
-    }
-    assert!(!pings::Tally::default().is_complete());
+    everything_occurs::<pings::Tally>();
 }
 
 /// Of every number of devices, with every line that breaks the rules, and in
 /// every way.
 #[test]
 fn stores_are_written_and_read() {
-    for seed in 1..=5 {
-        let tally = stores::Tally::read(&script(seed, 50_000)[..]).expect("memory can be read");
-        let mut text = Vec::new();
-        tally.print(&mut text).expect("memory can be written");
-        assert!(tally.is_complete(), "{}", String::from_utf8_lossy(&text));
-    }
-    assert!(!stores::Tally::default().is_complete());
+    everything_occurs::<stores::Tally>();
 }
 
 #[test]
