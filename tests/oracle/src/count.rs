@@ -3,7 +3,7 @@
 
 use std::io::{self, BufRead, Write};
 
-/// Every kind of answer that is counted, after the refusal numbers 1 to 16.
+/// Every kind of answer that is counted, after the refusal numbers 1 to 17.
 pub const KINDS: [&str; 66] = [
     "refused without a buffer",
     "refused with a buffer",
@@ -73,7 +73,7 @@ pub const KINDS: [&str; 66] = [
     "no call",
 ];
 
-pub const REFUSALS: usize = 16;
+pub const REFUSALS: usize = 17;
 
 /// The counts, and what they need to know of the answers before.
 pub struct Tally {
@@ -181,8 +181,8 @@ impl Tally {
         };
         let number: usize = number.parse().ok()?;
         let is_line_due = number == 16;
-        let is_read = number == 15;
-        if is_line_due || (is_read && rest.contains(':')) {
+        let lends_nothing = matches!(number, 15 | 17);
+        if is_line_due || (lends_nothing && rest.contains(':')) {
             return None;
         }
         *self.refusals.get_mut(number.checked_sub(1)?)? += 1;

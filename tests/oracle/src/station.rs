@@ -40,6 +40,8 @@ pub enum Refusal {
     OtherEdition = 15,
     /// A line of a store breaks the rules.
     BrokenLine = 16,
+    /// Bytes after the payload of a radio report aren't all zero.
+    DirtyPadding = 17,
 }
 
 impl Refusal {
@@ -732,19 +734,31 @@ const PAYLOAD_LENGTHS: [usize; 32] = [
     0, 0, 0, 0, 0, 0, 0, 0, 0, 0, 0, 0, 0, 0, 0, 0,
 ];
 
+/// The payload of a radio report, and its padding: the bytes after it, to the
+/// end of the report. Where the payload is all that follows there are none.
+pub fn split_payload(report_type: u8, parameters: &[u8]) -> (&[u8], &[u8]) {
+    match PAYLOAD_LENGTHS.get(usize::from(report_type)) {
+        Some(0) | None => (parameters, &[]),
+        Some(&length) => parameters.split_at(length),
+    }
+}
+
+pub fn is_clean(padding: &[u8]) -> bool {
+    padding.iter().all(|&byte| byte == 0)
+}
+
 /// 01, "Taking a DJ report".
 impl Port {
+    /// 02, Ask 5: the padding is looked at last, before the link.
     fn take_radio(&mut self, report_type: u8, parameters: &[u8]) -> Result<Taken, Refusal> {
         ensure(self.paired, Refusal::Unpaired)?;
         ensure(self.declares(report_type), Refusal::UndeclaredType)?;
+        let (payload, padding) = split_payload(report_type, parameters);
+        ensure(is_clean(padding), Refusal::DirtyPadding)?;
         self.link = Link::Up;
-        let length = match PAYLOAD_LENGTHS[usize::from(report_type)] {
-            0 => parameters.len(),
-            length => length,
-        };
         Ok(Taken::Radio {
             report_type,
-            length,
+            length: payload.len(),
         })
     }
 

@@ -79,6 +79,24 @@ fn another_serial() {
     assert_eq!(rows[5], [1, 255, 0x83, 0xB5, 4, 16, 1, 0, 0, 0]);
 }
 
+/// 02, Ask 5: the number of the refusal, and nothing else.
+#[test]
+fn dirty_padding() {
+    let report = |report_type, last| {
+        let mut report = [0; 15];
+        report[..7].copy_from_slice(&[0x20, 2, report_type, 0, 0x10, 0x20, 0x0E]);
+        report[14] = last;
+        block(0, [0; 3], &report)
+    };
+    let blocks = [report(0x41, 1), report(2, 1), report(2, 0)];
+    let mut answers = [0; 3 * ROW];
+    let encoded = encode(&blocks);
+    assert_eq!(run(&encoded, &mut [], &mut answers), Ok(3 * ROW));
+    let rows: Vec<&[u8]> = answers.chunks(ROW).collect();
+    assert_eq!(rows[1], [0, 17, 0, 0, 0, 0, 0, 0, 0, 0]);
+    assert_eq!(rows[2], [6, 2, 3, 7, 0, 0, 0, 0, 0, 0]);
+}
+
 #[test]
 fn nothing_is_no_call() {
     assert_eq!(run(&[], &mut [], &mut []), Ok(0));

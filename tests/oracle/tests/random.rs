@@ -114,7 +114,9 @@ fn a_missing_kind_and_a_strange_line_are_noticed() {
         "refused 16: EE",
         "refused 16 line=0",
         "refused 16 line=9",
-        "refused 17",
+        "refused 17: EE",
+        "refused 17 line=1",
+        "refused 18",
         "refused 0",
         "restored 2",
         "wrote 8: 00",
@@ -147,7 +149,7 @@ fn every_call_is_refused_in_every_way_and_no_other() {
         }
     }
     let table: [(&str, &[u8]); 12] = [
-        ("take", &[1, 2, 3, 4, 5, 6, 7, 8]),
+        ("take", &[1, 2, 3, 4, 5, 6, 7, 8, 17]),
         ("request", &[5, 9, 10, 11, 12]),
         ("cancel", &[5, 13]),
         ("switch", &[10, 14]),

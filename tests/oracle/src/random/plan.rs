@@ -28,6 +28,8 @@ pub enum Step {
     /// A reply to some ping of the port, or nearly that.
     AnswerPing(u8),
     Event(u8),
+    /// A radio report of the device, or nearly that.
+    Radio(u8),
     Pair(u8),
     Unpair(u8),
     LinkDown(u8),
@@ -105,10 +107,10 @@ impl Generator {
             if self.rng.chance(30) {
                 steps.push(Step::LinkDown(port));
             }
-            if self.rng.chance(50) {
-                steps.push(Step::Event(port));
-            } else {
-                steps.extend([Step::AskBattery(port), Step::Reply(port)]);
+            match self.rng.below(5) {
+                0 | 1 => steps.push(Step::Event(port)),
+                2 | 3 => steps.extend([Step::AskBattery(port), Step::Reply(port)]),
+                _ => steps.push(Step::Radio(port)),
             }
             steps.push(Step::Dump);
         }
@@ -215,6 +217,7 @@ impl Generator {
             Step::Cancel(port) => self.cancel_on(port),
             Step::AnswerPing(port) => Call::Take(self.answer_ping(port)),
             Step::Event(port) => Call::Take(self.event_on(port)),
+            Step::Radio(port) => Call::Take(self.radio_of(port)),
             Step::Pair(port) => Call::Take(self.paired(port)),
             Step::Unpair(port) => Call::Take(self.dj(port, dj::UNPAIRED, &[])),
             Step::LinkDown(port) => Call::Take(self.dj(port, dj::LINK, &[1])),

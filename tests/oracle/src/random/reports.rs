@@ -2,8 +2,8 @@
 
 use super::Generator;
 use crate::station::{
-    asked_serial, dj, Key, PortNumber, ReportId, Waiting, BATTERY_LEVEL_STATUS, FIRST_SERIAL,
-    WIRELESS_DEVICE_STATUS,
+    asked_serial, dj, split_payload, Key, PortNumber, ReportId, Waiting, BATTERY_LEVEL_STATUS,
+    FIRST_SERIAL, WIRELESS_DEVICE_STATUS,
 };
 
 impl Generator {
@@ -418,20 +418,61 @@ impl Generator {
         self.dj(port, report_type, &[])
     }
 
-    /// A radio report of a type that the device declares, or nearly that.
     fn radio(&mut self) -> Vec<u8> {
         let paired = self.ports_where(|port| port.paired);
         let port = match self.rng.pick_if_any(&paired) {
             Some(port) if self.rng.chance(90) => port,
             _ => self.device(),
         };
+        self.radio_of(port)
+    }
+
+    /// A radio report of a type that the device declares, or nearly that.
+    pub(super) fn radio_of(&mut self, port: u8) -> Vec<u8> {
         let report_type = match self.rng.below(10) {
             0 => self.rng.between(0, 0x3F) as u8,
             1 => self.rng.between(32, 0x3F) as u8,
             2..=5 => self.rng.pick(&[1, 2, 3, 4, 8]),
             _ => self.declared_type(port),
         };
-        self.dj(port, report_type, &[])
+        let mut report = self.dj(port, report_type, &[]);
+        let start = ReportId::DjShort.start();
+        let payload = split_payload(report_type, &report[start..]).0;
+        let padding = start + payload.len();
+        if padding < report.len() {
+            self.pad(&mut report, padding);
+        }
+        report
+    }
+
+    /// Padding from this offset on: most often clean, else dirty in one byte
+    /// or in two, and now and then whatever the report was filled with.
+    fn pad(&mut self, report: &mut [u8], padding: usize) {
+        if self.rng.chance(5) {
+            return;
+        }
+        report[padding..].fill(0);
+        if self.rng.chance(65) {
+            return;
+        }
+        let last = report.len() - 1;
+        let at = match self.rng.below(5) {
+            0 => padding,
+            1 => last,
+            // Of a long report, where a short one has no more bytes.
+            2 => self.rng.between(last.min(ReportId::DjShort.length()), last),
+            _ => self.rng.between(padding, last),
+        };
+        report[at] = match self.rng.below(2) {
+            0 => 1 << self.rng.below(8),
+            _ => self.rng.between(1, 255) as u8,
+        };
+        if self.rng.chance(25) {
+            // Two that are 0 in a sum of eight bits.
+            let other = self.rng.between(padding, last);
+            report[at] = 0x80;
+            report[other] = 0x80;
+        }
     }
 
     fn declared_type(&mut self, port: u8) -> u8 {
