@@ -227,6 +227,7 @@ static void take_radio(struct plain_port *port, const uint8_t *bytes, size_t len
                        struct plain_answer *answer)
 {
     uint8_t type = bytes[2];
+    size_t payload;
 
     if (!port->paired) {
         refuse(answer, PLAIN_NOT_PAIRED);
@@ -236,11 +237,19 @@ static void take_radio(struct plain_port *port, const uint8_t *bytes, size_t len
         refuse(answer, PLAIN_NOT_DECLARED);
         return;
     }
+    payload = payload_lengths[type] != 0 ? payload_lengths[type] : length - DJ_PARAMETERS;
+    /* 02, Ask 5: zeros after the payload, to the end of the report. */
+    for (size_t i = DJ_PARAMETERS + payload; i < length; i++) {
+        if (bytes[i] != 0) {
+            refuse(answer, PLAIN_DIRTY_PADDING);
+            return;
+        }
+    }
     port->up = true;
     answer->kind = PLAIN_RADIO;
     answer->type = type;
     answer->start = DJ_PARAMETERS;
-    answer->length = payload_lengths[type] != 0 ? payload_lengths[type] : (uint8_t)(length - DJ_PARAMETERS);
+    answer->length = (uint8_t)payload;
 }
 
 static void take_paired(struct plain_port *port, const uint8_t *bytes, struct plain_answer *answer)

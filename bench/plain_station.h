@@ -17,7 +17,8 @@ enum {
     PLAIN_PLACES_FULL = 12,
     PLAIN_NOT_WAITING = 13,
     PLAIN_OTHER_EDITION = 15,
-    PLAIN_BROKEN_LINE = 16
+    PLAIN_BROKEN_LINE = 16,
+    PLAIN_DIRTY_PADDING = 17
 };
 
 /* One pending request. The place is empty where no ticks are left. */

@@ -25,7 +25,7 @@ struct outcome {
 
 /* Each sequence is made by a function of its own on either side, so that callgrind has a line for each. */
 #define SCRIPTS(X) \
-    X(setup) X(mouse) X(refused) X(event) X(request) X(reply) X(error) X(cancel) X(tick) \
+    X(setup) X(mouse) X(longmouse) X(refused) X(dirty) X(event) X(request) X(reply) X(error) X(cancel) X(tick) \
     X(errorfirst) X(errorlast) X(errornone) X(replyfirst) X(replylast) X(replynone) \
     X(cancelfirst) X(cancellast) X(cancelnone) X(againfirst) X(againlast) X(roomnone) \
     X(three) X(roomfirst) X(roomlast) X(pings) X(latefirst) X(latelast) X(latenone) \
@@ -65,7 +65,9 @@ static const struct {
     const char *name;
 } lines[] = {
     {sequence_mouse, sequence_setup, 4, "take: mouse report"},
+    {sequence_longmouse, sequence_setup, 0, "take: mouse, long"},
     {sequence_refused, sequence_setup, 0, "take: refused report"},
+    {sequence_dirty, sequence_setup, 0, "take: dirty padding"},
     {sequence_event, sequence_setup, 0, "take: event"},
     {sequence_reply, sequence_request, 6, "take: reply"},
     {sequence_error, sequence_request, 0, "take: 0x8F error"},
@@ -248,7 +250,10 @@ static void write_sequences(void)
         add(&sequences[sequence_store], STORE);
         add(&sequences[sequence_restore], RESTORE);
         TAKE_REPORT(&sequences[sequence_mouse], 0x20, 0x02, 0x02, 0x01, 0x00, 0xFF, 0x1F, 0x00, 0x01, 0xFF);
+        TAKE_REPORT(&sequences[sequence_longmouse], 0x21, 0x02, 0x02, 0x01, 0x00, 0xFF, 0x1F, 0x00, 0x01, 0xFF);
         TAKE_REPORT(&sequences[sequence_refused], 0x20, 0x02, 0x04, 0x01);
+        TAKE_REPORT(&sequences[sequence_dirty], 0x20, 0x02, 0x02, 0x01, 0x00, 0xFF, 0x1F, 0x00, 0x01, 0xFF, 0x00, 0x00,
+                    0x00, 0x00, 0x01);
         TAKE_REPORT(&sequences[sequence_event], 0x11, 0x02, 0x07, 0x00, 0x32, 0x28, 0x01);
         add(&sequences[sequence_list], LIST);
         add_request(&sequences[sequence_serial], 0xFF, 0x83, 0xB5, 0x31, 0x00);
@@ -422,6 +427,26 @@ static void add_random_ping(struct sequence *sequence)
         TAKE_REPORT(sequence, rand() % 2 == 0 ? 0x10 : 0x11, device, 0x00, byte3, (uint8_t)(rand() % 3), 0x00, byte);
 }
 
+/* A device is paired, or sends a radio report, short or long, of a type that has padding or of another: as many bytes
+ * as a payload has, one more or many, and then zeros, of which one in four reports has one or two that are not. */
+static void add_random_radio(struct sequence *sequence)
+{
+    static const uint8_t types[] = {1, 2, 3, 4, 8, 0, 5, 36}, filled[] = {1, 1, 1, 4, 4, 7, 8, 12};
+    uint8_t id = rand() % 2 == 0 ? 0x20 : 0x21, device = port(rand() % 6), type = types[rand() % 8];
+    uint8_t rest[31] = {device, type};
+    size_t length = id == 0x20 ? 14 : 31, bytes = filled[rand() % 8];
+
+    if (rand() % 4 == 0) {
+        TAKE_REPORT(sequence, 0x20, device, 0x41, 0x00, 0x10, 0x20, 0x3F, 0x01);
+        return;
+    }
+    for (size_t i = 0; i < bytes; i++)
+        rest[2 + i] = likely_byte();
+    for (int dirty = rand() % 8; dirty < 2; dirty++)
+        rest[2 + (size_t)rand() % (length - 2)] = 0x80;
+    add_take(sequence, id, rest, length);
+}
+
 static void add_random_call(struct sequence *sequence)
 {
     if (rand() % 40 == 0)
@@ -429,6 +454,7 @@ static void add_random_call(struct sequence *sequence)
     switch (rand() % 10) {
     case 0: add_random_serial(sequence); break;
     case 1: add_random_ping(sequence); break;
+    case 2: add_random_radio(sequence); break;
     default: add_random(sequence); break;
     }
 }
