@@ -83,6 +83,7 @@ function refused(answer,    n) {
     if (n == 7) unpaired_devices[decimal(word[3])] = 1
     if (n == 15) explain("its first line: " stored(1))
     if (n == 16) explain("line " value(answer, "line") ": " stored(value(answer, "line")))
+    if (n == 17) explain("from " who(decimal(word[3])) ": " type_text(toupper(word[4])) ", after its payload " rest(5 + payload[toupper(word[4])]))
 }
 
 function wrote(answer,    k) {
@@ -462,6 +463,7 @@ function name_refusals() {
     refusal[14] = "a reserved device bit"
     refusal[15] = "a store of another edition: keep the file, and read it with the software that wrote it"
     refusal[16] = "a line of the store breaks the rules: keep a copy of the file, and ask the devices anew"
+    refusal[17] = "bytes after the radio report's payload are not zero, as a faulty receiver sends them"
 }
 
 function name_kinds() {
@@ -514,6 +516,9 @@ function name_rest(    i) {
     radio["0E"] = "keyboard LEDs"
     radio["10"] = "short HID++"
     radio["11"] = "long HID++"
+    payload["01"] = payload["02"] = 7
+    payload["03"] = 4
+    payload["04"] = payload["08"] = 1
     split("0001,0003,0005,1000,1D4B", known, ",")
     name_of["0001"] = "feature set"
     name_of["0003"] = "firmware information"
