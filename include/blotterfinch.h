@@ -72,7 +72,7 @@ enum blotterfinch_sub_id {
 /* The bytes that blotterfinch_mouse takes. */
 enum { BLOTTERFINCH_MOUSE_PAYLOAD = 7 };
 
-/* Why a call was refused. The numbers that are left out, 7, 8, 11 to 13, 15 and 16, need a station, which
+/* Why a call was refused. The numbers that are left out, 7, 8, 11 to 13 and 15 to 17, need a station, which
  * this library does not have. Where several apply, the one that comes first in the function's comment is given. */
 enum blotterfinch_refusal {
     BLOTTERFINCH_ACCEPTED = 0,
@@ -143,7 +143,7 @@ static inline size_t blotterfinch_report_length(uint8_t id)
     }
 }
 
-/* A refusal in words, in English and in lower case; for any other number, 7, 8, 11 to 13, 15 and 16 among
+/* A refusal in words, in English and in lower case; for any other number, 7, 8, 11 to 13 and 15 to 17 among
  * them, that there is no such refusal.
  * The text is a constant: it is not to be freed. */
 static inline const char *blotterfinch_refusal_text(uint8_t refusal)
@@ -163,7 +163,9 @@ static inline const char *blotterfinch_refusal_text(uint8_t refusal)
     }
 }
 
-/* Reads one report. Refusals: 1, 2, 3, 4, 5, 6.
+/* Reads one report. The bytes after the payload of a DJ report of type 0x01 to 0x04 or 0x08 are not looked at: where
+ * they are not all zero the receiver is faulty, and a console that is to use no such report checks them by itself.
+ * Refusals: 1, 2, 3, 4, 5, 6.
  * bytes has bytes_length bytes; the call writes none; a refusal changes nothing. */
 blotterfinch_report blotterfinch_read(const uint8_t *bytes, size_t bytes_length);
 
