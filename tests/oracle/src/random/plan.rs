@@ -195,7 +195,9 @@ impl Generator {
         if self.rng.chance(50) {
             steps.push(Step::Ping(port));
         }
-        steps.extend([Step::AnswerPing(port), Step::Store, Step::List]);
+        let answers = self.rng.between(2, 4);
+        steps.extend(vec![Step::AnswerPing(port); answers]);
+        steps.extend([Step::Store, Step::List]);
         steps
     }
 

@@ -143,11 +143,18 @@ impl Generator {
         same.map(|(_, request)| request.parameters[2]).collect()
     }
 
-    /// A report that answers some ping of the port, or nearly that. Now and
-    /// then it is an event, or of another port.
+    /// A report that answers some ping of the port, or nearly that; where none
+    /// waits, one made there of late. Now and then it is an event, or of
+    /// another port.
     pub(super) fn answer_ping(&mut self, port: u8) -> Vec<u8> {
         let waiting = self.port(port).into_iter().flat_map(|port| port.waiting());
-        let pings: Vec<Waiting> = waiting.filter(|ping| ping.key.is_ping()).copied().collect();
+        let recent = self.recent.iter().filter(|(at, _)| *at == port);
+        let recent = recent.map(|(_, request)| request);
+        let is_ping = |request: &&Waiting| request.key.is_ping();
+        let mut pings: Vec<Waiting> = waiting.filter(is_ping).copied().collect();
+        if pings.is_empty() {
+            pings = recent.filter(is_ping).copied().collect();
+        }
         let Some(ping) = self.rng.pick_if_any(&pings) else {
             return self.near_reply();
         };
@@ -366,7 +373,7 @@ impl Generator {
         let reports = match self.rng.below(6) {
             0 => self.rng.pick(&[0, 1, 0x8000_0000, 0xFFFF_FFFF]),
             1 => u32::from_le_bytes([0; 4].map(|_| self.rng.byte())),
-            2 => 0x0000_0E1E,
+            2 => self.rng.pick(&[0x0000_0E1E, 0x0000_013F]),
             _ => 0x0000_011E | 1 << self.rng.below(32),
         };
         let mut parameters = vec![flags];
@@ -452,15 +459,18 @@ impl Generator {
             return;
         }
         report[padding..].fill(0);
-        if self.rng.chance(65) {
+        if self.rng.chance(75) {
             return;
         }
         let last = report.len() - 1;
-        let at = match self.rng.below(5) {
-            0 => padding,
-            1 => last,
-            // Of a long report, where a short one has no more bytes.
-            2 => self.rng.between(last.min(ReportId::DjShort.length()), last),
+        // Behind the end of a short report, in a long one.
+        let behind = last.min(ReportId::DjShort.length());
+        let at = match self.rng.below(10) {
+            0 | 1 => padding,
+            2 | 3 => last,
+            4 => ReportId::DjShort.length() - 1,
+            5 => behind,
+            6 => self.rng.between(behind, last),
             _ => self.rng.between(padding, last),
         };
         report[at] = match self.rng.below(2) {
