@@ -238,11 +238,13 @@ pub struct Tally {
     pub kinds: [u64; KINDS],
     /// Requests dropped by replies that told another serial.
     pub dropped: u64,
+    /// Radio reports refused for their padding.
+    pub dirty: u64,
 }
 
 impl Tally {
     pub fn is_complete(&self) -> bool {
-        let counts = [self.malformed, self.no_room, self.dropped];
+        let counts = [self.malformed, self.no_room, self.dropped, self.dirty];
         counts.iter().chain(&self.kinds).all(|&count| count > 0)
     }
 
@@ -250,6 +252,9 @@ impl Tally {
         self.kinds[usize::from(row[0])] += 1;
         if row[0] == 1 {
             self.dropped += u64::from(row[6]);
+        }
+        if row[..2] == [0, Refusal::DirtyPadding.number()] {
+            self.dirty += 1;
         }
     }
 }

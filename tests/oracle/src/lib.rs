@@ -5,6 +5,7 @@
 
 pub mod count;
 pub mod encoded;
+pub mod padding;
 pub mod pings;
 pub mod random;
 pub mod script;

@@ -1,6 +1,6 @@
 //! Replays scripts, makes random ones and counts the answers' kinds, the
-//! serials told, the pings answered and the stores written and read; makes
-//! runs of encoded calls, random ones too.
+//! serials told, the pings answered, the stores written and read and the
+//! radio reports with padding; makes runs of encoded calls, random ones too.
 
 use std::ffi::{OsStr, OsString};
 use std::fs::File;
@@ -11,7 +11,7 @@ use oracle::count::Tally;
 use oracle::encoded::run_all;
 use oracle::random::{write_runs, write_script};
 use oracle::script::{replay, Failure};
-use oracle::{pings, serials, stores, tally};
+use oracle::{padding, pings, serials, stores, tally};
 
 const USAGE: &str = "\
 usage: oracle replay [FILE]
@@ -20,6 +20,7 @@ usage: oracle replay [FILE]
        oracle serials FILE
        oracle pings FILE
        oracle stores FILE
+       oracle padding FILE
        oracle encoded-random SEED COUNT
        oracle encoded FILE";
 
@@ -34,6 +35,7 @@ fn main() -> ExitCode {
         [name, file] if *name == "serials" => count_calls::<serials::Tally>(file),
         [name, file] if *name == "pings" => count_calls::<pings::Tally>(file),
         [name, file] if *name == "stores" => count_calls::<stores::Tally>(file),
+        [name, file] if *name == "padding" => count_calls::<padding::Tally>(file),
         [name, seed, count] if *name == "encoded-random" => random_runs(seed, count),
         [name, file] if *name == "encoded" => run_file(file),
         _ => Err(USAGE.to_owned()),
@@ -80,8 +82,8 @@ fn run_file(file: &OsStr) -> Result<ExitCode, String> {
     let tally =
         run_all(open(file)?, output()).map_err(|error| failed(&file.to_string_lossy(), &error))?;
     eprintln!(
-        "malformed {}, no room {}, rows by kind {:?}, dropped by replies {}",
-        tally.malformed, tally.no_room, tally.kinds, tally.dropped
+        "malformed {}, no room {}, rows by kind {:?}, dropped by replies {}, dirty padding {}",
+        tally.malformed, tally.no_room, tally.kinds, tally.dropped, tally.dirty
     );
     Ok(status(tally.is_complete()))
 }

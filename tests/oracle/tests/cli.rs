@@ -76,6 +76,7 @@ fn counts_of_calls_fail_where_something_never_occurs() {
         ("serials", "serial became known; by device: 0 0 0 0 0 0"),
         ("pings", "ping answered; by port: 0 0 0 0 0 0 0"),
         ("stores", "store written; by devices, 0 to 6: 0 0 0 0 0 0 0"),
+        ("padding", "taken, short; by type, 1 to 4 and 8: 0 0 0 0 0"),
     ];
     for (name, first) in first_lines {
         let output = oracle(&[name, many.to_str().unwrap()], b"");
@@ -89,7 +90,7 @@ fn counts_of_calls_fail_where_something_never_occurs() {
 
 #[test]
 fn strange_arguments_are_refused() {
-    let lines: [&[&str]; 9] = [
+    let lines: [&[&str]; 10] = [
         &[],
         &["play"],
         &["replay", "a", "b"],
@@ -99,6 +100,7 @@ fn strange_arguments_are_refused() {
         &["serials"],
         &["pings"],
         &["stores"],
+        &["padding"],
     ];
     for arguments in lines {
         let output = oracle(arguments, b"");

@@ -9,7 +9,7 @@ use oracle::random::{write_script, Generator};
 use oracle::script::{make, parse, Answer, Call, Line, LENT};
 use oracle::station::{asked_serial, Outcome, PortNumber, Station, Taken};
 use oracle::store::read_store;
-use oracle::{pings, serials, stores, tally};
+use oracle::{padding, pings, serials, stores, tally};
 
 fn script(seed: u64, count: u64) -> Vec<u8> {
     let mut script = Vec::new();
@@ -101,6 +101,12 @@ fn pings_are_answered() {
 #[test]
 fn stores_are_written_and_read() {
     everything_occurs::<stores::Tally>();
+}
+
+/// Of every type that has padding, clean and dirty in every way.
+#[test]
+fn padding_is_clean_and_dirty() {
+    everything_occurs::<padding::Tally>();
 }
 
 #[test]
