@@ -154,7 +154,7 @@ module _ (p : Port) (r : Report) (bytes : List ℕ) (s : SoundPlaces (p .places)
   dj-at (djRefused (radioUndeclared l u d)) = dj-keeps refl refl (other-kind (omega arith) (omega arith)) refl
   dj-at (djRefused (radioDirty l u d n)) = dj-keeps refl refl (other-kind (omega arith) (omega arith)) refl
   dj-at (djRefused (linkUnpaired e u)) = dj-keeps refl refl (simp e) refl
-  dj-at (radioTaken l u d n) = dj-keeps refl refl (other-kind (omega arith) (omega arith)) refl
+  dj-at (radioTaken l u d h) = dj-keeps refl refl (other-kind (omega arith) (omega arith)) refl
   dj-at (unpairs e) = dj-drops refl refl (simp e) refl
   dj-at (pairedSame e q) = dj-keeps refl refl (simp (e, q)) refl
   dj-at (pairedNew e q) = dj-drops refl refl (simp (e, q)) refl
@@ -216,7 +216,7 @@ hidpp-drops (givesEvent h) = refl
 
 dj-drops-none : {p : Port} {r : Report} {bytes : List ℕ} {x : Result} → DjCase p r bytes x → takenDrops (x .answer) ≡ 0
 dj-drops-none (djRefused h) = refl
-dj-drops-none (radioTaken l u d n) = refl
+dj-drops-none (radioTaken l u d h) = refl
 dj-drops-none (unpairs e) = refl
 dj-drops-none (pairedSame e q) = refl
 dj-drops-none (pairedNew e q) = refl

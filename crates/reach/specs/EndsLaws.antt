@@ -272,7 +272,7 @@ module _ (p : Port) (s : SoundPlaces (p .places)) where
   pub dj-ends : {r : Report} {bytes : List ℕ} {x : Result} → DjCase p r bytes x → EndingAt (r .device) (takeEnding (r .device) bytes (x .answer)) p (x .port)
   unfolding withLink withReports withPairing madeFresh
   dj-ends (djRefused h) = elsewhere _ p _ nothing tt refl
-  dj-ends (radioTaken l u d n) = elsewhere _ p _ nothing tt refl
+  dj-ends (radioTaken l u d h) = elsewhere _ p _ nothing tt refl
   dj-ends (unpairs e) = drops-all _ p _ s refl
   dj-ends (pairedSame e q) = drops-none _ p _ refl
   dj-ends (pairedNew e q) = drops-all _ p _ s refl
@@ -294,7 +294,7 @@ hidpp-apart n bytes (givesEvent h) e = tt
 
 pub dj-apart : (n : ℕ) {p : Port} {r : Report} {bytes : List ℕ} {x : Result} → DjCase p r bytes x → eqb (r .device) n ≡ false → Elsewhere n (takeEnding n bytes (x .answer))
 dj-apart n (djRefused h) e = tt
-dj-apart n (radioTaken l u d n) e = tt
+dj-apart n (radioTaken l u d h) e = tt
 dj-apart n (unpairs q) e = simp e
 dj-apart n (pairedSame q z) e = simp e
 dj-apart n (pairedNew q z) e = simp e

@@ -148,7 +148,7 @@ everything p q all =
 pub dj-keeps : {p : Port} {r : Report} {bytes : List ℕ} {x : Result} → DjCase p r bytes x → Keeps (takeLists p (x .answer)) p (x .port)
 unfolding withLink withReports
 dj-keeps {p} (djRefused h) = keeps-all _ p
-dj-keeps (radioTaken l u d n) = each (λ h. refl) (λ h. refl) (λ h. refl) (may refl) (λ h. refl) (λ h. refl) (λ h. refl) (λ h. refl) (λ h. refl)
+dj-keeps (radioTaken l u d h) = each (λ h. refl) (λ h. refl) (λ h. refl) (may refl) (λ h. refl) (λ h. refl) (λ h. refl) (λ h. refl) (λ h. refl)
 dj-keeps {p} (unpairs e) = everything p _ (λ f. refl)
 dj-keeps {p} (pairedSame e s) = each (λ h. refl) (λ h. refl) (may (simp s)) (λ h. refl) (λ h. refl) (λ h. refl) (λ h. refl) (λ h. refl) (λ h. refl)
 dj-keeps {p} (pairedNew e s) = everything p _ (λ f. simp s)

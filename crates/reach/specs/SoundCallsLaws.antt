@@ -74,7 +74,7 @@ module _ (position : ℕ) (p : Port) (s : SoundPort position p) where
   pub dj-sound : {r : Report} {bytes : List ℕ} {x : Result} → (position ≡ receiverPosition → 0x42 < r .byte2) → DjCase p r bytes x → SoundPort position (x .port)
   unfolding withLink withReports withPairing madeFresh
   dj-sound last (djRefused h) = s
-  dj-sound {x = x} last (radioTaken l u d n) = records-sound p (x .port) same s
+  dj-sound {x = x} last (radioTaken l u d h) = records-sound p (x .port) same s
   dj-sound last (unpairs e) = sound-fresh position
   dj-sound {x = x} last (pairedSame e q) = records-sound p (x .port) same s
   dj-sound last (pairedNew e q) =
