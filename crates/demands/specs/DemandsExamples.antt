@@ -5,13 +5,13 @@ use mathlib.Core.Bool.{Bool, true, false, cond, _&&_, _||_, true≢false}
 use mathlib.Core.List.{List, [], _∷_, _++_, map}
 use native.Mathlib.Omega.{arith}
 use lib.ListN.{length, getD, replicate}
-use lib.Dec.{eqb, lit<}
+use lib.Dec.{eqb, lit<, lit≤}
 use denote.Ref.{RefT, now}
 use Rattle.report.specs.declared.FeatureIndex.{FeatureIndex}
 use Rattle.report.specs.Ports.{isDevice, isPort}
 use Rattle.report.specs.Sizes.{byte, hidppStart, lengthOf}
 use Rattle.report.specs.Reading as reading
-use Rattle.report.specs.Reading.{Read, reportFrom, hidppRule, familyRule, readRule}
+use Rattle.report.specs.Reading.{Read, reportFrom, hidppRule, djRule, familyRule, readRule}
 use Rattle.frame.specs.Writing.{requestFrameRule, switchRule, getPairedRule, ledRule, WriteOutcome, fitsAt}
 use Rattle.mouse.specs.Movement.{mouseRule}
 use Rattle.frame.specs.declared.Written.{Written}
@@ -35,6 +35,8 @@ use Rattle.matching.specs.Matching as matching
 use Rattle.matching.specs.Answering.{Answers}
 use Rattle.matching.proofs.first_answered.Reads as answered-reads
 use Rattle.hidpp.specs.HidppTaking.{isMajor1}
+use Rattle.dj.specs.Dirty.{type1}
+use Rattle.dj.specs.DjTaking.{isDeclared}
 use Rattle.serial.specs.Serials.{SerialResult}
 use Rattle.serial.specs.Giving.{Gives}
 use Rattle.blotterfinch.specs.declared.Report.{Report}
@@ -76,9 +78,9 @@ use Rattle.sequence.specs.Independence.{Alone}
 use Rattle.sequence.specs.Stays.{Stays, ownCall, tickCall, receiverCall, SameButDrops, Drops}
 use Rattle.sequence.specs.Histories.{Ensured, Made, callOf, History, stationAfter, made}
 use Rattle.reach.specs.Sound.{Reached}
-use Rattle.reach.specs.CallCases.{Waits, AllPlaced, ByCases, StepCase, hidppAtPort, givesPlain, major1, SerialCase, keepsNone, firstSerial, sameSerial, otherSerial}
+use Rattle.reach.specs.CallCases.{Waits, AllPlaced, ByCases, StepCase, hidppAtPort, givesPlain, major1, SerialCase, keepsNone, firstSerial, sameSerial, otherSerial, radioDirty}
 use Rattle.reach.specs.CallCasesLaws.{not-so}
-use Rattle.reach.specs.RefusalTable.{led5, RefusalRow, RefusedWith}
+use Rattle.reach.specs.RefusalTable.{byPort, led5, RefusalRow, RefusedWith}
 use Rattle.reach.specs.Completion.{isReply, isFailure, isHidppRead, Replies, Fails, readEnds, Swaps, endsIn}
 use Rattle.reach.specs.Ends.{byReply, byError, byExpiry, byCancel, byDrop, endingOf, endedInAll, waitingOn, endedIn, begunIn}
 use Rattle.reach.specs.Fields.{battery}
@@ -129,6 +131,10 @@ named n device other away s = go (one device) s refl
 same-taken : {a b : answers.Answer} → taken a ≡ taken b → a ≡ b
 same-taken e = cc e
 
+-- a key report with one byte of rubbish, its last
+abbrev rubbish : List ℕ
+rubbish = 0x20 ∷ 0x02 ∷ 0x01 ∷ 0x00 ∷ 0x00 ∷ 0x04 ∷ 0x00 ∷ 0x00 ∷ 0x00 ∷ 0x00 ∷ 0x00 ∷ 0x00 ∷ 0x00 ∷ 0x00 ∷ 0x01 ∷ []
+
 module _ (d : Demands) where
   -- the station that a call hands back is the rules' next one
   next-station : (st : Station) (c : Call) (o : Outcome) → Ensured st c o → o .station ≡ step st c .station
@@ -138,6 +144,13 @@ module _ (d : Demands) where
   no-device-7 : (st : Station) → AllPlaced st → (leds offset : ℕ) (lent : List ℕ) (r : Written) (after : List ℕ) → Ensured st (write (led 7 leds) offset lent) (writeStep st (writtenOutcome r after)) → RefusedWith (written (writtenOf r)) 5
   no-device-7 st placed leds offset lent r after e =
       d .refuses st placed (write (led 7 leds) offset lent) (writeStep st (writtenOutcome r after)) e 5 .1 (led5 refl)
+
+  -- device 2 is paired and sends keys: a key report whose last byte is not zero is refused with 17
+  rubbish-refused : (st : Station) → AllPlaced st → portFor st 2 .paired ≡ true → isDeclared (portFor st 2 .reports) 1 ≡ true → (r : TakeResult) → Ensured st (take rubbish) (takeStep rubbish (takeOutcome r)) → RefusedWith (taken (takenOf (r .answer))) 17
+  unfolding lengthOf reportFrom djRule familyRule readRule
+  rubbish-refused st placed paired declared r e =
+      d .refuses st placed (take rubbish) (takeStep rubbish (takeOutcome r)) e 17 .1
+      (byPort refl (radioDirty (lit< tt) paired declared (record { payload = 7; padded = type1; offset = 14; behind = lit≤ tt; within = lit< tt; rubbish = λ zero. absurd (omega (arith, zero)) })))
 
   -- and a number that is answered has its row
   has-row : (st : Station) → AllPlaced st → (c : Call) (o : Outcome) → Ensured st c o → (number : ℕ) → RefusedWith (o .answer) number → RefusalRow st c number

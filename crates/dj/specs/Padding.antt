@@ -16,10 +16,10 @@ allZero (x ∷ xs) = eqb x 0 && allZero xs
 abbrev pub isZeroFrom : List ℕ → ℕ → Bool
 isZeroFrom bytes offset = allZero (drop offset bytes)
 
--- the padding begins where the payload ends. Which types have any follows from the table of lengths: where the payload is all that follows the type, no byte is left
-abbrev pub paddingStart : ℕ → ℕ → ℕ
-paddingStart kind size = djStart + payloadLength kind size
+-- every byte behind a payload of this length, to the end of the report
+abbrev pub isCleanAfter : ℕ → List ℕ → Bool
+isCleanAfter payload bytes = isZeroFrom bytes (djStart + payload)
 
--- every byte behind the payload, to the end of the report
+-- which types have padding follows from the table of lengths: where the payload is all that follows the type, no byte is left
 abbrev pub isClean : ℕ → ℕ → List ℕ → Bool
-isClean kind size bytes = isZeroFrom bytes (paddingStart kind size)
+isClean kind size bytes = isCleanAfter (payloadLength kind size) bytes

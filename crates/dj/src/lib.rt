@@ -2,9 +2,9 @@
 ghost use mathlib.Core.Path.{_≡_};
 ghost use Rattle.report.specs.Sizes.{bit};
 ghost use Rattle.report.specs.ReportContracts.{djOf};
-ghost use Rattle.port.specs.PortContracts.{takenOf, resultOf};
-ghost use Rattle.dj.specs.DjContracts.{isAccepted};
-ghost use Rattle.dj.specs.DjTaking.{p, isDeclared, radioAnswer, radioRule, unpairedRule, wpidOf, reportsOf, isPairedWith, pairedRule, linkRule, otherRule, takeDj};
+ghost use Rattle.port.specs.PortContracts.{resultOf};
+ghost use Rattle.dj.specs.DjContracts.{acceptedLength};
+ghost use Rattle.dj.specs.DjTaking.{p, isDeclared, radioRule, unpairedRule, wpidOf, reportsOf, isPairedWith, pairedRule, linkRule, otherRule, takeDj};
 use port::Port;
 use port::answer::Notice;
 use port::answer::PortTaken;
@@ -26,29 +26,21 @@ fn is_declared(reports: u32, kind: u8) -> bool
     false
 }
 
-// Whether a radio report of this type, with `following` bytes after it, is accepted from a device.
-pub fn is_accepted(paired: bool, reports: u32, kind: u8, following: u8, bytes: &[u8]) -> bool
-    ensures accepted { λ r. ⌜ r ≡ isAccepted paired reports kind following (now (bytes .entry)) ⌝ }
+// The length of the payload of a radio report with `following` bytes after its type, where it is accepted from a device; else 0.
+pub fn accepted_length(paired: bool, reports: u32, kind: u8, following: u8, bytes: &[u8]) -> u8
+    ensures length { λ r. ⌜ r ≡ acceptedLength paired reports kind following (now (bytes .entry)) ⌝ }
 {
     if !paired {
-        return false;
+        return 0;
     }
     if !is_declared(reports, kind) {
-        return false;
+        return 0;
     }
-    padding::is_clean(kind, following, bytes)
-}
-
-// The answer to a radio report that is accepted, with `following` bytes after its type.
-pub fn radio_answer(kind: u8, following: u8) -> Taken
-    ensures answer { λ r. ⌜ takenOf r ≡ radioAnswer kind following ⌝ }
-{
-    let length = radio::payload_length(kind, following);
-    Taken::Radio {
-        kind,
-        start: report::DJ_START,
-        length,
+    let accepted = radio::payload_length(kind, following);
+    if !padding::is_clean(accepted, bytes) {
+        return 0;
     }
+    accepted
 }
 
 // A radio report with `following` bytes after its type.
@@ -67,14 +59,19 @@ fn take_radio(port: Port, kind: u8, following: u8, bytes: &[u8]) -> PortTaken
             port,
         };
     }
-    if !padding::is_clean(kind, following, bytes) {
+    let length = radio::payload_length(kind, following);
+    if !padding::is_clean(length, bytes) {
         return PortTaken {
             answer: Taken::Refused(Refusal::DirtyPadding),
             port,
         };
     }
     PortTaken {
-        answer: radio_answer(kind, following),
+        answer: Taken::Radio {
+            kind,
+            start: report::DJ_START,
+            length,
+        },
         port: port::with_link(port, true),
     }
 }

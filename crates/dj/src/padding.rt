@@ -1,7 +1,6 @@
 // The bytes behind the payload of a radio report.
 ghost use mathlib.Core.Path.{_≡_};
-ghost use Rattle.dj.specs.Padding.{isZeroFrom, isClean};
-use report::radio;
+ghost use Rattle.dj.specs.Padding.{isZeroFrom, isCleanAfter};
 
 // Whether every byte from this offset on is zero.
 pub fn is_zero_from(bytes: &[u8], offset: usize) -> bool
@@ -17,10 +16,9 @@ pub fn is_zero_from(bytes: &[u8], offset: usize) -> bool
     true
 }
 
-// Whether nothing but zeros is behind the payload of a radio report of this type with `following` bytes after the type.
-pub fn is_clean(kind: u8, following: u8, bytes: &[u8]) -> bool
-    ensures clean { λ r. ⌜ r ≡ isClean kind following (now (bytes .entry)) ⌝ }
+// Whether nothing but zeros is behind a payload of this length.
+pub fn is_clean(length: u8, bytes: &[u8]) -> bool
+    ensures clean { λ r. ⌜ r ≡ isCleanAfter length (now (bytes .entry)) ⌝ }
 {
-    let length = radio::payload_length(kind, following);
     is_zero_from(bytes, report::DJ_START as usize + length as usize)
 }

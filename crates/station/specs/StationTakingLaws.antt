@@ -10,12 +10,14 @@ use Rattle.report.specs.declared.Device.{Device}
 use Rattle.report.specs.declared.HidppReport.{HidppReport}
 use Rattle.report.specs.declared.DjReport.{DjReport}
 use Rattle.report.specs.declared.Reading.the-variants.{Hidpp, Dj}
+use Rattle.report.specs.Sizes.{djStart}
 use Rattle.report.specs.Reading as reading
 use Rattle.report.specs.Reading.{Report}
 use Rattle.report.specs.ReportContracts.{hidppOf, djOf, readingOf}
 use Rattle.port.specs.declared.Port.{Port}
 use Rattle.port.specs.declared.answer.PortTaken.{PortTaken}
 use Rattle.port.specs.declared.answer.Taken.{Taken}
+use Rattle.port.specs.declared.answer.Taken.the-variants.{Radio}
 use Rattle.port.specs.Records.{withLink}
 use Rattle.port.specs.Answers.{Answer, Result}
 use Rattle.port.specs.PortContracts.{takenOf, resultOf}
@@ -28,8 +30,8 @@ use Rattle.serial.specs.declared.Kept.{Kept}
 use Rattle.serial.specs.Serials.{Given, noSerial, serialOf, givenBy, SerialResult, serialRule}
 use Rattle.serial.specs.SerialContracts.{givenOf, keptOf}
 use Rattle.serial.specs.GivingLaws.{given-exactly}
-use Rattle.dj.specs.DjTaking.{radioAnswer, takeDj}
-use Rattle.dj.specs.DjContracts.{isAccepted}
+use Rattle.dj.specs.DjTaking.{takeDj}
+use Rattle.dj.specs.DjContracts.{acceptedLength}
 use Rattle.dj.specs.DjTakingLaws.{take-accepted}
 use Rattle.station.specs.declared.Station.{Station}
 use Rattle.station.specs.Stations.{receiverPosition, positionOf, noPort, portAt, portFor, withPort}
@@ -99,10 +101,6 @@ module _ (st : Station) (bytes : List ℕ) where
       ∙ take-read e
 
   -- a radio report that is accepted: the port's link is set, and nothing else
-  pub take-radio : (d : DjReport) (a : Taken) {position : ℕ} → reading.readRule bytes ≡ readingOf (Dj d) → position ≡ positionOf (d .device .0) → isAccepted (portAt st position .paired) (portAt st position .reports) (d .kind) (d .length) bytes ≡ true → takenOf a ≡ radioAnswer (d .kind) (d .length) → takeOutcome (record { answer = a; station = record { ports = set (st .ports) position (withLink (portAt st position) true) } }) ≡ takeRule st bytes
-  take-radio d a {position} e p h q =
-      take-dj d (record { answer = a; port = withLink (portAt st position) true }) e p
-      (ap (λ (x : Answer). result x) q ∙ take-accepted (portAt st position) (djOf d) bytes h)
-    where
-      result : Answer → Result
-      result x = record { answer = x; port = withLink (portAt st position) true }
+  pub take-radio : (d : DjReport) (payload : ℕ) {position : ℕ} → reading.readRule bytes ≡ readingOf (Dj d) → position ≡ positionOf (d .device .0) → payload ≡ acceptedLength (portAt st position .paired) (portAt st position .reports) (d .kind) (d .length) bytes → ¬ (payload ≡ 0) → takeOutcome (record { answer = Radio (d .kind) djStart payload; station = record { ports = set (st .ports) position (withLink (portAt st position) true) } }) ≡ takeRule st bytes
+  take-radio d payload {position} e p h some =
+      take-dj d (record { answer = Radio (d .kind) djStart payload; port = withLink (portAt st position) true }) e p (take-accepted (portAt st position) (djOf d) bytes payload h some)

@@ -160,10 +160,21 @@ impl Station {
                 let position = position_of(d.device);
                 let port = self.ports[position];
                 // A short way for speed: dj::take_at gives the same, with two copies of a port (docs/PERFORMANCE.md, "The way of a radio report").
-                if dj::is_accepted(port.paired, port.reports, d.kind, d.length, bytes) {
+                let length = dj::accepted_length(
+                    port.paired,
+                    port.reports,
+                    d.kind,
+                    d.length,
+                    bytes,
+                );
+                if length != 0 {
                     self.ports[position].up = true;
                     return TakeResult {
-                        answer: dj::radio_answer(d.kind, d.length),
+                        answer: Taken::Radio {
+                            kind: d.kind,
+                            start: report::DJ_START,
+                            length,
+                        },
                         station: self,
                     };
                 }

@@ -16,11 +16,11 @@ returns-2 c = simp (not-false (c .before .before .before .before .before .args .
 
 returns-3 : tie.Need-returns-3
 unfolding radioRule
-returns-3 c = simp (not-false (c .before .before .before .before .before .before .before .args .port .paired) (c .before .before .before .before .if1 .left), sym (c .before .before .before .is-declared .ensures) ∙ not-false _ (c .before .before .if2 .left), sym (c .before .is-clean .ensures) ∙ not-true _ (c .if3 .taken))
+returns-3 c = simp (not-false (c .before .before .before .before .before .before .before .before .args .port .paired) (c .before .before .before .before .before .if1 .left), sym (c .before .before .before .before .is-declared .ensures) ∙ not-false _ (c .before .before .before .if2 .left), ← c .before .before .payload-length .ensures, sym (c .before .is-clean .ensures) ∙ not-true _ (c .if3 .taken))
 
 returns-4 : tie.Need-returns-4
 unfolding radioRule
-returns-4 c = simp (not-false (c .before .before .before .before .before .before .before .before .before .args .port .paired) (c .before .before .before .before .before .before .if1 .left), sym (c .before .before .before .before .before .is-declared .ensures) ∙ not-false _ (c .before .before .before .before .if2 .left), sym (c .before .before .before .is-clean .ensures) ∙ not-false _ (c .before .before .if3 .left), c .before .radio-answer .ensures, c .with-link .ensures)
+returns-4 c = simp (not-false (c .before .before .before .before .before .before .before .before .before .args .port .paired) (c .before .before .before .before .before .before .if1 .left), sym (c .before .before .before .before .before .is-declared .ensures) ∙ not-false _ (c .before .before .before .before .if2 .left), ← c .before .before .before .payload-length .ensures, sym (c .before .before .is-clean .ensures) ∙ not-false _ (c .before .if3 .left), c .with-link .ensures)
 
 pub take-radio-spec : {M : Type 1} → statement M
 take-radio-spec =
@@ -30,7 +30,7 @@ take-radio-spec =
     (λ c κs. search needs)
     returns-2
     (λ c κs. search needs)
-    returns-3
     (λ c κs. search needs)
+    returns-3
     (λ c κs. search needs)
     returns-4)

@@ -10,7 +10,7 @@ use Rattle.station.proofs.Station.take.Tie as tie
 
 returns : tie.Need-returns
 unfolding withLink
-returns c = take-radio _ _ _ (c .radio-answer .result) (sym (c .before .before .before .before .before .before .before .before .before .read .ensures) ∙ ap readingOf (c .before .before .before .before .before .before .before .d .given .1)) (c .before .before .before .before .before .position-of3 .ensures .0) (sym (c .before .before .before .is-accepted .ensures) ∙ c .before .before .if1 .taken) (c .radio-answer .ensures)
+returns c = take-radio _ _ _ (c .before .before .accepted-length .result) (sym (c .before .before .before .before .before .before .before .before .read .ensures) ∙ ap readingOf (c .before .before .before .before .before .before .d .given .1)) (c .before .before .before .before .position-of3 .ensures .0) (c .before .before .accepted-length .ensures) (c .before .if1 .taken)
 
 returns-2 : tie.Need-returns-2
 unfolding takeBy
@@ -60,7 +60,6 @@ take-spec =
     (λ c κs. search needs)
     (λ c. search needs)
     (λ c. search needs)
-    (λ c κs. search needs)
     returns
     (λ c κs. search needs)
     (λ c. search needs)
