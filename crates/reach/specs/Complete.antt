@@ -1,4 +1,4 @@
--- Document 01, with document 02, Asks 1 to 4, gathered, of the rules: what holds on every station that calls reach; that the cases of a call are complete and exclude each other; when each refusal is given; what a search gives, and to which place a call comes by it; what a call ends and changes; and that a refused call changes nothing.
+-- Document 01, with document 02, Asks 1 to 5, gathered, of the rules: what holds on every station that calls reach; that the cases of a call are complete and exclude each other; when each refusal is given; what a search gives, and to which place a call comes by it; what a call ends and changes; and that a refused call changes nothing.
 use Prim.Native.Nat.{ℕ, _≤_}
 use mathlib.Core.Path.{_≡_}
 use mathlib.Core.Bool.{Bool, true, false}
