@@ -63,9 +63,6 @@ uint64_t plain_measure(const uint8_t *calls, size_t calls_length, const uint8_t 
             for (int j = 0; j < PLAIN_PORTS; j++)
                 sum += ended[j];
             break;
-        case LOOK:
-            sum += plain_link(&station, call[2]);
-            break;
         case STORE:
             sum += plain_store(&station, buffer, buffer_length, 0, &written);
             sum += written;

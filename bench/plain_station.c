@@ -402,11 +402,6 @@ void plain_tick(struct plain_station *station, uint8_t ended[PLAIN_PORTS])
     }
 }
 
-bool plain_link(const struct plain_station *station, uint8_t device)
-{
-    return station->ports[is_device(device) ? device - 1 : PLAIN_DEVICES].up;
-}
-
 static char *put_text(char *at, const char *text)
 {
     size_t length = strlen(text);

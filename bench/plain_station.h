@@ -89,9 +89,6 @@ uint8_t plain_cancel(struct plain_station *station, uint8_t device, uint8_t byte
 
 void plain_tick(struct plain_station *station, uint8_t ended[PLAIN_PORTS]);
 
-/* Whether the link of a device's port is up; of any number that is no device's, the receiver's. */
-bool plain_link(const struct plain_station *station, uint8_t device);
-
 /* Gives the refusal, or 0 and the number of bytes written. */
 uint8_t plain_list(const struct plain_station *station, uint8_t *buffer, size_t buffer_length,
                    size_t offset, size_t *written);

@@ -1,7 +1,7 @@
 /* Makes the same calls with the library's station and with plain C, for bench/station. With no argument
  * it makes each sequence once, for callgrind to count, and prints a line for each call: the sequence, the one
- * that it is taken from, the number of calls that it has more, the bar (0: none), and the call's name. With the
- * argument `time` it prints nanoseconds per call of both; with `compare` it makes random sequences. */
+ * that it is taken from, the number of calls that it has more, the bar, and the call's name. With the argument
+ * `time` it prints nanoseconds per call of both; with `compare` it makes random sequences. */
 #define _POSIX_C_SOURCE 199309L
 
 #include <stdio.h>
@@ -29,7 +29,7 @@ struct outcome {
     X(errorfirst) X(errorlast) X(errornone) X(replyfirst) X(replylast) X(replynone) \
     X(cancelfirst) X(cancellast) X(cancelnone) X(againfirst) X(againlast) X(roomnone) \
     X(three) X(roomfirst) X(roomlast) X(pings) X(latefirst) X(latelast) X(latenone) \
-    X(list) X(serial) X(ping) X(late) X(look) X(full) X(store) X(restore)
+    X(list) X(serial) X(ping) X(late) X(full) X(store) X(restore)
 
 #define INDEX(name) sequence_##name,
 enum { SCRIPTS(INDEX) SEQUENCE_COUNT };
@@ -58,30 +58,28 @@ static const struct {
     void (*plain)(struct outcome *);
 } made[] = {SCRIPTS(BOTH)};
 
-/* A call's cost is that of its sequence less that of the sequence it was taken from, over the calls more. Every call
- * has a bar, in times the instructions of plain C; what a search costs by the place it comes to has none. */
+/* A call's cost is that of its sequence less that of the sequence it was taken from, over the calls more. */
 static const struct {
     int sequence, from;
-    double bar;
+    double bar; /* 0: none */
     const char *name;
 } lines[] = {
-    {sequence_mouse, sequence_setup, 2.93, "take: mouse report"},
-    {sequence_longmouse, sequence_setup, 2.30, "take: mouse, long"},
-    {sequence_refused, sequence_setup, 4.27, "take: refused report"},
-    {sequence_dirty, sequence_setup, 4.10, "take: dirty padding"},
-    {sequence_event, sequence_setup, 2.75, "take: event"},
-    {sequence_reply, sequence_request, 3.41, "take: reply"},
-    {sequence_error, sequence_request, 3.59, "take: 0x8F error"},
-    {sequence_request, sequence_setup, 2.48, "request"},
-    {sequence_cancel, sequence_request, 5.93, "cancel"},
-    {sequence_tick, sequence_request, 2.98, "tick"},
-    {sequence_list, sequence_setup, 1.34, "listing"},
-    {sequence_serial, sequence_setup, 3.50, "serial, asked and told"},
-    {sequence_ping, sequence_setup, 3.00, "ping and reply"},
-    {sequence_late, sequence_setup, 4.00, "take: late ping reply"},
-    {sequence_store, sequence_full, 1.34, "write six pads' store"},
-    {sequence_restore, sequence_full, 1.00, "read six pads' store"},
-    {sequence_look, sequence_setup, 1.38, "look at a link"},
+    {sequence_mouse, sequence_setup, 4, "take: mouse report"},
+    {sequence_longmouse, sequence_setup, 0, "take: mouse, long"},
+    {sequence_refused, sequence_setup, 0, "take: refused report"},
+    {sequence_dirty, sequence_setup, 0, "take: dirty padding"},
+    {sequence_event, sequence_setup, 0, "take: event"},
+    {sequence_reply, sequence_request, 6, "take: reply"},
+    {sequence_error, sequence_request, 0, "take: 0x8F error"},
+    {sequence_request, sequence_setup, 6, "request"},
+    {sequence_cancel, sequence_request, 0, "cancel"},
+    {sequence_tick, sequence_request, 0, "tick"},
+    {sequence_list, sequence_setup, 0, "listing"},
+    {sequence_serial, sequence_setup, 0, "serial, asked and told"},
+    {sequence_ping, sequence_setup, 0, "ping and reply"},
+    {sequence_late, sequence_setup, 0, "take: late ping reply"},
+    {sequence_store, sequence_full, 0, "write six pads' store"},
+    {sequence_restore, sequence_full, 0, "read six pads' store"},
     {sequence_replyfirst, sequence_request, 0, "reply: first place"},
     {sequence_replylast, sequence_request, 0, "reply: last place"},
     {sequence_replynone, sequence_request, 0, "reply: no place"},
@@ -147,11 +145,6 @@ static void add_cancel(struct sequence *sequence, uint8_t device, uint8_t byte2,
     call[2] = device;
     call[3] = byte2;
     call[4] = byte3;
-}
-
-static void add_look(struct sequence *sequence, uint8_t device)
-{
-    add(sequence, LOOK)[2] = device;
 }
 
 static uint8_t port(int i)
@@ -263,7 +256,6 @@ static void write_sequences(void)
                     0x00, 0x00, 0x01);
         TAKE_REPORT(&sequences[sequence_event], 0x11, 0x02, 0x07, 0x00, 0x32, 0x28, 0x01);
         add(&sequences[sequence_list], LIST);
-        add_look(&sequences[sequence_look], port(i % PORTS));
         add_request(&sequences[sequence_serial], 0xFF, 0x83, 0xB5, 0x31, 0x00);
         TAKE_REPORT(&sequences[sequence_serial], 0x11, 0xFF, 0x83, 0xB5, 0x31, 0xFB, 0x84, 0x1B, 0x86);
         add_ping(&sequences[sequence_ping], 1, 0x11);
@@ -459,8 +451,6 @@ static void add_random_call(struct sequence *sequence)
 {
     if (rand() % 40 == 0)
         add(sequence, rand() % 4 == 0 ? RESTORE : STORE);
-    if (rand() % 8 == 0)
-        add_look(sequence, rand() % 8 == 0 ? (uint8_t)rand() : port(rand() % PORTS));
     switch (rand() % 10) {
     case 0: add_random_serial(sequence); break;
     case 1: add_random_ping(sequence); break;

@@ -1,18 +1,16 @@
 // Taking a HID++ report at the port that it names.
-ghost use Rattle.std.specs.Prelude.{◌≡◌, ◌&&◌, ◌<◌, leb};
+ghost use Rattle.std.specs.Prelude.{◌≡◌};
 ghost use Rattle.report.specs.ReportContracts.{hidpp_of};
-ghost use Rattle.port.specs.declared.Port.{Port};
-ghost use Rattle.port.specs.Records.{place_count, slot_of, request_in};
+ghost use Rattle.port.specs.Records.{slot_of};
 ghost use Rattle.port.specs.Answers.{stray, plain};
-ghost use Rattle.port.specs.PortContracts.{about_of, kind_number};
+ghost use Rattle.port.specs.PortContracts.{about_of, kind_number, result_of};
 ghost use Rattle.matching.specs.Messages.{message_of};
-ghost use Rattle.hidpp.specs.HidppRecords.{max_level, holds, is_get_feature, index_from, with_found_feature, with_battery_from, is_battery_reply, after_reply, is_version1, after_error, is_event0, after_event};
+ghost use Rattle.hidpp.specs.HidppRecords.{holds, is_get_feature, index_from, with_found_feature, with_battery_from, is_battery_reply, after_reply, is_version1, after_error, is_event0, after_battery_event, after_wireless_event, after_event};
 ghost use Rattle.hidpp.specs.HidppTaking.{about, carried, unchanged, is_error, error_fits, kind_of, error_rule, reply_rule, is_major1, feature_rule, unasked_rule, take_hidpp};
-ghost use Rattle.hidpp.specs.HidppContracts.{linked_if, told_at, hidpp_result};
 
 use matching::Message;
-use port::answer::{About, ErrorKind, Taken};
-use port::{Battery, FirstParameters, Port, Request, Version, answer};
+use port::answer::{About, ErrorKind, PortTaken, Taken};
+use port::{Battery, FirstParameters, Port, Request, Version, answer, waiting};
 use report::{FeatureIndex, HidppReport};
 
 // The code of an error to a ping that a device of HID++ 1.0 sends.
@@ -30,33 +28,6 @@ const BATTERY_STATUS: u16 = 0x1000;
 const WIRELESS_STATUS: u16 = 0x1d4b;
 
 const MAX_LEVEL: u8 = 100;
-
-// What a report tells of its device.
-#[derive(Drop)]
-pub enum Told {
-    Nothing,
-    // The link is up.
-    Link,
-    // Major, minor.
-    Version(u8, u8),
-    // The index found for the known feature of a slot.
-    Feature(usize, FeatureIndex),
-    // The battery; and whether the same event tells that the link is up.
-    Battery {
-        level: u8,
-        next: u8,
-        status: u8,
-        up: bool,
-    },
-}
-
-// What taking a report comes to at its port: the answer, what it tells, and the place of the request that it ends, or port::PLACES.
-#[derive(Drop)]
-pub struct HidppTaken {
-    pub answer: Taken,
-    pub told: Told,
-    pub ended: usize,
-}
 
 // The slot of a known feature, or port::FEATURES.
 fn slot_of(feature: u16) -> usize
@@ -103,66 +74,44 @@ fn as_index(index: u8) -> FeatureIndex
     FeatureIndex(0)
 }
 
-fn told_of_feature(request: Request, index: u8) -> Told
-    ensures { (p : Port) → told_at result p ≡ with_found_feature p request index }
+fn with_found_feature(port: Port, request: Request, index: u8) -> Port
+    ensures { result ≡ with_found_feature port request index }
 {
     let slot = slot_of(report::join2(request.first.1, request.first.0));
     if slot < port::FEATURES {
-        return Told::Feature(slot, as_index(index));
+        let features = port.features;
+        let next = port::with_feature(features, slot, as_index(index));
+        return port::with_features(port, next);
     }
-    Told::Nothing
+    port
 }
 
-fn told_of_link(up: bool) -> Told
-    ensures { (p : Port) → told_at result p ≡ linked_if up p }
-{
-    if up {
-        return Told::Link;
-    }
-    Told::Nothing
-}
-
-// Whether both levels are ones that a battery has.
-fn is_charge(first: FirstParameters) -> bool
-    ensures { result ≡ (leb first.0 max_level && leb first.1 max_level) }
+fn with_battery_from(port: Port, first: FirstParameters) -> Port
+    ensures { result ≡ with_battery_from port first }
 {
     if first.0 <= MAX_LEVEL {
-        return first.1 <= MAX_LEVEL;
+        if first.1 <= MAX_LEVEL {
+            return port::with_battery(port, Battery::Known(first.0, first.1, first.2));
+        }
     }
-    false
+    port
 }
 
-fn told_of_battery(first: FirstParameters, up: bool) -> Told
-    ensures { (p : Port) → told_at result p ≡ linked_if up (with_battery_from p first) }
-{
-    if is_charge(first) {
-        return Told::Battery {
-            level: first.0,
-            next: first.1,
-            status: first.2,
-            up,
-        };
-    }
-    told_of_link(up)
-}
-
-// What a reply to the request of this place tells.
-fn told_by_reply(port: Port, m: Message, place: usize) -> Told
-    ensures { told_at result port ≡ after_reply port m (request_in port.places place) }
+// The port after a reply to this request.
+fn after_reply(port: Port, m: Message, request: Request) -> Port
+    ensures { result ≡ after_reply port m request }
 {
     if matching::is_ping(m.byte2, m.byte3) {
-        return Told::Version(m.first.0, m.first.1);
+        return port::with_version(port, Version::Known(m.first.0, m.first.1));
     }
     if is_get_feature(m.byte2, m.byte3) {
-        let places = port.places;
-        let request = port::request_in(places, place);
-        return told_of_feature(request, m.first.0);
+        return with_found_feature(port, request, m.first.0);
     }
     if is_battery_reply(port, m) {
         let first = m.first;
-        return told_of_battery(first, false);
+        return with_battery_from(port, first);
     }
-    Told::Nothing
+    port
 }
 
 fn is_battery_reply(port: Port, m: Message) -> bool
@@ -187,13 +136,13 @@ fn is_version_1(kind: u8, named2: FeatureIndex, named3: u8, code: u8) -> bool
     matching::is_ping(named2, named3)
 }
 
-fn told_by_error(kind: u8, named2: FeatureIndex, named3: u8, code: u8) -> Told
-    ensures { (p : Port) → told_at result p ≡ after_error p kind named2.0 named3 code }
+fn after_error(port: Port, kind: u8, named2: FeatureIndex, named3: u8, code: u8) -> Port
+    ensures { result ≡ after_error port kind named2.0 named3 code }
 {
     if is_version_1(kind, named2, named3, code) {
-        return Told::Version(1, 0);
+        return port::with_version(port, Version::Known(1, 0));
     }
-    Told::Nothing
+    port
 }
 
 // Whether the message is event 0 of a known feature.
@@ -206,49 +155,29 @@ fn is_event_0(port: Port, feature: u16, m: Message) -> bool
     false
 }
 
-// Two features may hold the same index: then an event tells of both.
-fn told_by_event(port: Port, m: Message) -> Told
-    ensures { told_at result port ≡ after_event port m }
+fn after_battery_event(port: Port, m: Message) -> Port
+    ensures { result ≡ after_battery_event port m }
 {
-    let up = is_event_0(port, WIRELESS_STATUS, m);
     if is_event_0(port, BATTERY_STATUS, m) {
         let first = m.first;
-        return told_of_battery(first, up);
+        return with_battery_from(port, first);
     }
-    told_of_link(up)
+    port
 }
 
-// The port with the battery that a report tells.
-pub fn with_charge(port: Port, level: u8, next: u8, status: u8, up: bool) -> Port
-    ensures charged { result ≡ told_at (Told.Battery level next status up) port }
+fn after_wireless_event(port: Port, m: Message) -> Port
+    ensures { result ≡ after_wireless_event port m }
 {
-    let charged = port::with_battery(port, Battery::Known(level, next, status));
-    if up {
-        return port::with_link(charged, true);
+    if is_event_0(port, WIRELESS_STATUS, m) {
+        return port::with_link(port, true);
     }
-    charged
+    port
 }
 
-// The port with what a report tells.
-pub fn with_told(port: Port, told: Told) -> Port
-    ensures kept { result ≡ told_at told port }
+fn after_event(port: Port, m: Message) -> Port
+    ensures { result ≡ after_event port m }
 {
-    match told {
-        Told::Nothing => port,
-        Told::Link => port::with_link(port, true),
-        Told::Version(major, minor) => port::with_version(port, Version::Known(major, minor)),
-        Told::Feature(slot, index) => {
-            let features = port.features;
-            let found = port::with_feature(features, slot, index);
-            port::with_features(port, found)
-        }
-        Told::Battery {
-            level,
-            next,
-            status,
-            up,
-        } => with_charge(port, level, next, status, up),
-    }
+    after_wireless_event(after_battery_event(port, m), m)
 }
 
 fn about(m: Message, byte2: FeatureIndex, byte3: u8) -> About
@@ -292,33 +221,30 @@ fn error_kind(byte2: FeatureIndex) -> ErrorKind
     ErrorKind::Hidpp2
 }
 
-// An answer alone: nothing is told, and no request ends.
-fn stray(m: Message) -> HidppTaken
-    ensures { (p : Port) → hidpp_result p result ≡ unchanged (carried stray m) p }
+fn stray(port: Port, m: Message) -> PortTaken
+    ensures { result_of result ≡ unchanged (carried stray m) port }
 {
-    HidppTaken {
+    PortTaken {
         answer: Taken::Stray(about(m, m.byte2, m.byte3)),
-        told: Told::Nothing,
-        ended: port::PLACES,
+        port,
     }
 }
 
-fn plain(m: Message) -> HidppTaken
-    ensures { (p : Port) → hidpp_result p result ≡ unchanged (carried plain m) p }
+fn plain(port: Port, m: Message) -> PortTaken
+    ensures { result_of result ≡ unchanged (carried plain m) port }
 {
-    HidppTaken {
+    PortTaken {
         answer: Taken::Plain(about(m, m.byte2, m.byte3)),
-        told: Told::Nothing,
-        ended: port::PLACES,
+        port,
     }
 }
 
 // An error: bytes 2 and 3 of the request that it names are byte 3 and the first parameter, its code is the second.
-fn take_error(port: Port, m: Message) -> HidppTaken
-    ensures { hidpp_result port result ≡ error_rule port m }
+fn take_error(port: Port, m: Message) -> PortTaken
+    ensures { result_of result ≡ error_rule port m }
 {
     if !error_fits(m) {
-        return stray(m);
+        return stray(port, m);
     }
     let named2 = FeatureIndex(m.byte3);
     let named3 = m.first.0;
@@ -326,29 +252,29 @@ fn take_error(port: Port, m: Message) -> HidppTaken
     let places = port.places;
     let place = port::first_match(places, named2, named3);
     if place < port::PLACES {
-        return HidppTaken {
+        let ended = waiting::end_at(port, place);
+        return PortTaken {
             answer: Taken::Failed {
                 about: about(m, named2, named3),
                 code,
                 kind: error_kind(m.byte2),
             },
-            told: told_by_error(m.byte2.0, named2, named3, code),
-            ended: place,
+            port: after_error(ended, m.byte2.0, named2, named3, code),
         };
     }
-    stray(m)
+    stray(port, m)
 }
 
-// The reply to the request of this place.
-fn take_reply(port: Port, m: Message, place: usize) -> HidppTaken
-    requires { place < place_count }
-    ensures { hidpp_result port result ≡ reply_rule port m place }
+fn take_reply(port: Port, m: Message, place: usize) -> PortTaken
+    ensures { result_of result ≡ reply_rule port m place }
 {
+    let places = port.places;
+    let request = port::request_in(places, place);
+    let ended = waiting::end_at(port, place);
     let about = about(m, m.byte2, m.byte3);
-    HidppTaken {
+    PortTaken {
         answer: Taken::Reply { about, dropped: 0 },
-        told: told_by_reply(port, m, place),
-        ended: place,
+        port: after_reply(ended, m, request),
     }
 }
 
@@ -362,39 +288,38 @@ fn is_major_1(version: Version) -> bool
 }
 
 // A report of a feature that no request waits for.
-fn take_feature(port: Port, m: Message) -> HidppTaken
-    ensures { hidpp_result port result ≡ feature_rule port m }
+fn take_feature(port: Port, m: Message) -> PortTaken
+    ensures { result_of result ≡ feature_rule port m }
 {
     let version = port.version;
     if is_major_1(version) {
-        return plain(m);
+        return plain(port, m);
     }
     if m.byte3 % 16 == 0 {
-        return HidppTaken {
+        return PortTaken {
             answer: Taken::Event(about(m, m.byte2, m.byte3)),
-            told: told_by_event(port, m),
-            ended: port::PLACES,
+            port: after_event(port, m),
         };
     }
-    stray(m)
+    stray(port, m)
 }
 
 // A report that no request waits for.
-fn take_unasked(port: Port, m: Message) -> HidppTaken
-    ensures { hidpp_result port result ≡ unasked_rule port m }
+fn take_unasked(port: Port, m: Message) -> PortTaken
+    ensures { result_of result ≡ unasked_rule port m }
 {
     if report::REGISTERS <= m.byte2.0 {
-        return stray(m);
+        return stray(port, m);
     }
     if report::SUB_IDS <= m.byte2.0 {
-        return plain(m);
+        return plain(port, m);
     }
     take_feature(port, m)
 }
 
 // Only a ping can wait with these bytes 2 and 3 and yet not be answered.
-fn take_message(port: Port, m: Message) -> HidppTaken
-    ensures { hidpp_result port result ≡ take_hidpp port m }
+fn take_message(port: Port, m: Message) -> PortTaken
+    ensures { result_of result ≡ take_hidpp port m }
 {
     if is_error(m.byte2) {
         return take_error(port, m);
@@ -405,14 +330,14 @@ fn take_message(port: Port, m: Message) -> HidppTaken
         return take_reply(port, m, place);
     }
     if matching::has_ping(port, m) {
-        return stray(m);
+        return stray(port, m);
     }
     take_unasked(port, m)
 }
 
 // Takes the report at its port.
-pub fn take_at(port: Port, h: HidppReport, bytes: &[u8]) -> HidppTaken
-    ensures result { hidpp_result port result ≡ take_hidpp port (message_of (hidpp_of h) bytes.now) }
+pub fn take_at(port: Port, h: HidppReport, bytes: &[u8]) -> PortTaken
+    ensures result { result_of result ≡ take_hidpp port (message_of (hidpp_of h) bytes.now) }
 {
     take_message(port, matching::message_of(h, bytes))
 }

@@ -5,10 +5,10 @@ use Rattle.frame.specs.Writing as writing
 use Rattle.listing.specs.Listing.{listing_rule}
 use Rattle.store.specs.Stores.{store_rule}
 use Rattle.station.specs.declared.Station.{Station}
-use Rattle.station.specs.Stations.{fresh_station, port_for}
+use Rattle.station.specs.Stations.{fresh_station}
 use Rattle.station.specs.StationTaking.{TakeOutcome, take_rule}
 use Rattle.station.specs.StationCalls.{RequestOutcome, request_rule, CancelOutcome, cancel_rule, TickOutcome, tick_all, RestoreOutcome, restore_rule}
-use Rattle.measure.specs.Weights.{take_weight, write_weight, cancel_weight, tick_weight, restore_weight, link_weight}
+use Rattle.measure.specs.Weights.{take_weight, write_weight, cancel_weight, tick_weight, restore_weight}
 
 -- the head of a call: its kind, the number of lent bytes, device, byte 2, byte 3, ticks, and two that count for nothing
 abbrev pub call_head_size : ℕ
@@ -56,16 +56,7 @@ measured_text c o = record { sum = added c.sum (write_weight o.answer); station 
 abbrev pub measured_restore : Course → RestoreOutcome → Course
 measured_restore c o = record { sum = added c.sum (restore_weight o.answer); station = o.station; lent = c.lent }
 
--- the link of a device's port
-abbrev pub measured_look : Course → ℕ → Course
-measured_look c device =
-    record {
-      sum = added c.sum (link_weight (port_for c.station device).up);
-      station = c.station;
-      lent = c.lent;
-    }
-
--- 0 take, 1 request, 2 cancel, 3 tick, 5 store, 6 restore, 7 a look at a link, any other the listing; requests, stores and listings are written at offset 0, and a restore reads the whole text
+-- 0 take, 1 request, 2 cancel, 3 tick, 5 store, 6 restore, any other the listing; requests, stores and listings are written at offset 0, and a restore reads the whole text
 unfoldable pub measured_call : Course → List ℕ → List ℕ → ℕ → Course
 measured_call c calls text at =
     cond (byte calls at == 0) (measured_take c (take_rule c.station (lent_at calls at)))
@@ -76,8 +67,7 @@ measured_call c calls text at =
     (cond (byte calls at == 3) (measured_tick c (tick_all c.station))
     (cond (byte calls at == 5) (measured_text c (store_rule c.station.ports 0 c.lent))
     (cond (byte calls at == 6) (measured_restore c (restore_rule c.station text))
-    (cond (byte calls at == 7) (measured_look c (call_byte calls at 2))
-    (measured_text c (listing_rule c.station.ports 0 c.lent))))))))
+    (measured_text c (listing_rule c.station.ports 0 c.lent)))))))
 
 -- after this number of calls
 unfoldable pub after : List ℕ → List ℕ → List ℕ → ℕ → Course

@@ -11,9 +11,9 @@ use Rattle.station.specs.declared.RequestResult.{RequestResult}
 use Rattle.station.specs.declared.CancelResult.{CancelResult}
 use Rattle.station.specs.declared.TickResult.{TickResult}
 use Rattle.station.specs.declared.RestoreResult.{RestoreResult}
-use Rattle.station.specs.Stations.{fresh_station, position_of, port_at}
+use Rattle.station.specs.Stations.{fresh_station}
 use Rattle.station.specs.StationPromises.{TakePromise, RequestPromise, CancelPromise, TickPromise, ListPromise, StorePromise, RestorePromise}
-use Rattle.measure.specs.Weights.{take_weight, write_weight, cancel_weight, tick_weight, restore_weight, link_weight}
+use Rattle.measure.specs.Weights.{take_weight, write_weight, cancel_weight, tick_weight, restore_weight}
 use Rattle.measure.specs.MeasuredCalls.{call_head_size, room_size, call_size, call_byte, lent_at, Course, added, measured_take, measured_request, measured_cancel, measured_tick, measured_text, measured_restore, measured_call, after, measured_in, measured, measured_by}
 use Rattle.port.specs.PortContracts.{taken_of, cancel_of}
 use Rattle.frame.specs.FrameContracts.{written_of}
@@ -54,13 +54,9 @@ module _ (calls text : List ℕ) (sum : ℕ) (s : Station) (lent : List ℕ) (at
   unfolding measured_call
   restore_turn r k p e = simp k (ap (λ (n : ℕ). course n r.station lent) (a ∙ ap (added sum) e) ∙ ap (measured_restore (course sum s lent)) p)
 
-  pub look_turn : {position : ℕ} → byte calls at ≡ 7 → position ≡ position_of (call_byte calls at 2) → w ≡ link_weight (port_at s position).up → course next s lent ≡ measured_call (course sum s lent) calls text at
+  pub list_turn : (r : Written) {after : List ℕ} → ¬ (byte calls at ≡ 0) → ¬ (byte calls at ≡ 1) → ¬ (byte calls at ≡ 2) → ¬ (byte calls at ≡ 3) → ¬ (byte calls at ≡ 5) → ¬ (byte calls at ≡ 6) → ListPromise s 0 lent r after → w ≡ write_weight (written_of r) → course next s after ≡ measured_call (course sum s lent) calls text at
   unfolding measured_call
-  look_turn {position} k p e = simp (k, ← p) (ap (λ (n : ℕ). course n s lent) (a ∙ ap (added sum) e))
-
-  pub list_turn : (r : Written) {after : List ℕ} → ¬ (byte calls at ≡ 0) → ¬ (byte calls at ≡ 1) → ¬ (byte calls at ≡ 2) → ¬ (byte calls at ≡ 3) → ¬ (byte calls at ≡ 5) → ¬ (byte calls at ≡ 6) → ¬ (byte calls at ≡ 7) → ListPromise s 0 lent r after → w ≡ write_weight (written_of r) → course next s after ≡ measured_call (course sum s lent) calls text at
-  unfolding measured_call
-  list_turn r {after} k0 k1 k2 k3 k5 k6 k7 p e = simp (ne_eqb _ _ k0, ne_eqb _ _ k1, ne_eqb _ _ k2, ne_eqb _ _ k3, ne_eqb _ _ k5, ne_eqb _ _ k6, ne_eqb _ _ k7) (ap (λ (n : ℕ). course n s after) (a ∙ ap (added sum) e) ∙ ap (measured_text (course sum s lent)) p)
+  list_turn r {after} k0 k1 k2 k3 k5 k6 p e = simp (ne_eqb _ _ k0, ne_eqb _ _ k1, ne_eqb _ _ k2, ne_eqb _ _ k3, ne_eqb _ _ k5, ne_eqb _ _ k6) (ap (λ (n : ℕ). course n s after) (a ∙ ap (added sum) e) ∙ ap (measured_text (course sum s lent)) p)
 
 -- the loop's state: what the first i calls have come to
 pub record Running (calls text lent₀ lent : List ℕ) (s : Station) (sum i : ℕ) : Type 0 where

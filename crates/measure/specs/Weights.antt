@@ -1,5 +1,5 @@
 -- The benchmark's number for an answer: the numbers that it carries added up, over a base for its kind.
-use Rattle.std.specs.Prelude.{ℕ, ◌+◌, ◌*◌, Bool, cond, List}
+use Rattle.std.specs.Prelude.{ℕ, ◌+◌, ◌*◌, List}
 use Rattle.report.specs.Sizes.{byte}
 use Rattle.frame.specs.Writing as writing
 use Rattle.port.specs.Answers.{About, Answer, refused, reply, stray, plain, event, failed, radio, notice}
@@ -37,6 +37,3 @@ abbrev pub restore_weight : restoring.RestoreAnswer → ℕ
 restore_weight restoring.restored = 8000
 restore_weight (restoring.refused number) = number
 restore_weight (restoring.refused_at number line) = number + 100 * line
-
-abbrev pub link_weight : Bool → ℕ
-link_weight up = cond up 1 0

@@ -1,6 +1,6 @@
 // Many calls on one station that is kept in a local, for the benchmark. bench/measure.h is the C side.
 ghost use Rattle.std.specs.Prelude.{◌≡◌, ◌≤◌};
-ghost use Rattle.measure.specs.Weights.{about_weight, take_weight, write_weight, cancel_weight, tick_weight, restore_weight, link_weight};
+ghost use Rattle.measure.specs.Weights.{about_weight, take_weight, write_weight, cancel_weight, tick_weight, restore_weight};
 ghost use Rattle.measure.specs.MeasuredCalls.{measured, measured_by};
 ghost use Rattle.port.specs.PortContracts.{about_of, taken_of, cancel_of};
 ghost use Rattle.frame.specs.FrameContracts.{written_of};
@@ -33,8 +33,6 @@ const TICK: u8 = 3;
 const STORE: u8 = 5;
 
 const RESTORE: u8 = 6;
-
-const LOOK: u8 = 7;
 
 // What a store that is read adds, and what the number of a line that breaks the rules is multiplied by.
 const RESTORED: u64 = 8000;
@@ -126,17 +124,8 @@ fn restore_weight(answer: Restored) -> u64
     }
 }
 
-fn link_weight(up: bool) -> u64
-    ensures { result ≡ link_weight up }
-{
-    if up {
-        return 1;
-    }
-    0
-}
-
 // Makes every whole call on a fresh station, each request, listing and store at the front of the buffer, and adds up
-// what they answer. A restore reads the whole text, and a look one link in place, as a program does that holds a station.
+// what they answer. A restore reads the whole text.
 #[unsafe(no_mangle)]
 pub extern "C" fn blotterfinch_measure(calls: &[u8], text: &[u8], buffer: &mut [u8]) -> u64
     ensures by_rules { measured_by result buffer.new ≡ measured calls.now text.now buffer.old }
@@ -194,11 +183,6 @@ pub extern "C" fn blotterfinch_measure(calls: &[u8], text: &[u8], buffer: &mut [
                 s = next;
                 let ended = t.ended;
                 sum = std::num::wrapping_add_u64(sum, tick_weight(ended));
-                continue;
-            }
-            LOOK => {
-                let position = station::position_of(Device(device));
-                sum = std::num::wrapping_add_u64(sum, link_weight(s.ports[position].up));
                 continue;
             }
             STORE => {

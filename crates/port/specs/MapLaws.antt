@@ -44,16 +44,6 @@ module _ {A : Type 0} (g : A → A) where
         so = ap (λ (l : List A). set l i v) m.so ∙ ap (set (map_first i xs) i) e ∙ stored i xs d h ∙ ap (λ (n : ℕ). map_first n xs) (sym (add-one i));
       }
 
-  -- the elements not yet replaced are as they were
-  rest : (i : ℕ) (xs : List A) (d : A) → get_or (map_first i xs) i d ≡ get_or xs i d
-  unfolding map_first
-  rest zero xs d = refl
-  rest (suc i) [] d = refl
-  rest (suc i) (x ∷ xs) d = rest i xs d
-
-  pub map_rest : {xs ys : List A} {i : ℕ} (d : A) → Mapped xs ys i → get_or ys i d ≡ get_or xs i d
-  map_rest {xs} {ys} {i} d m = ap (λ (l : List A). get_or l i d) m.so ∙ rest i xs d
-
   pub map_done : {xs ys : List A} {i : ℕ} → Mapped xs ys i → length xs ≤ i → ys ≡ map g xs
   map_done {xs} {ys} {i} m h = m.so ∙ whole i xs h
 

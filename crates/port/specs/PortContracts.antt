@@ -1,11 +1,8 @@
 -- Helpers of contracts: the program's answers at a port, in the terms of the rules.
-use Rattle.std.specs.Prelude.{ℕ, cond, List, set}
+use Rattle.std.specs.Prelude.{ℕ}
 use Rattle.report.specs.ReportContracts.{number_of}
 use Rattle.port.specs.Answers as rules
 use Rattle.port.specs.Waiting as waiting
-use Rattle.port.specs.Records.{empty_place}
-use Rattle.port.specs.declared.Port.{Port}
-use Rattle.port.specs.declared.Request.{Request}
 use Rattle.port.specs.declared.answer.About.{About}
 use Rattle.port.specs.declared.answer.ErrorKind.{ErrorKind}
 use Rattle.port.specs.declared.answer.ErrorKind.TheVariants.{Hidpp1, Hidpp2}
@@ -55,12 +52,5 @@ abbrev pub cancel_of : Cancelled → waiting.CancelAnswer
 cancel_of (cancelled.Refused r) = waiting.CancelAnswer.refused (number_of r)
 cancel_of cancelled.Done = waiting.done
 
--- the request of a place ends; past the last place nothing changes
-unfoldable pub emptied_within : List Request → ℕ → List Request
-emptied_within places place = cond (waiting.is_found place) (set places place empty_place) places
-
-unfoldable pub ended_within : Port → ℕ → Port
-ended_within p place = cond (waiting.is_found place) (waiting.ended_at p place) p
-
-abbrev pub cancel_result : Port → PortCancelled → waiting.CancelResult
-cancel_result p c = record { answer = cancel_of c.answer; port = ended_within p c.ended }
+abbrev pub cancel_result : PortCancelled → waiting.CancelResult
+cancel_result c = record { answer = cancel_of c.answer; port = c.port }

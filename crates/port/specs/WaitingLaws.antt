@@ -1,36 +1,17 @@
--- Laws of the waiting requests: a program's test of the place that it found, a request that ends where there is one, and a full port as one without an empty place.
-use Rattle.std.specs.Prelude.{ℕ, suc, ◌+◌, ◌<◌, ◌≤◌, ◌≡◌, refl, Bool, true, false, cond, List, [], ◌∷◌, length, set}
+-- Laws of the waiting requests: a program's test of the place that it found, and a full port as one without an empty place.
+use Rattle.std.specs.Prelude.{ℕ, suc, ◌+◌, ◌<◌, ◌≤◌, ◌≡◌, Bool, true, false, cond, List, [], ◌∷◌, length}
 use Rattle.std.proofs.Common.{subst, not-suc-le-zero, le_of_suc-le-suc, arith, lit≤, lt-ltb, le-ltb, le-leb}
 use Rattle.std.proofs.lemmas.Bool.{lt-leb}
-use Rattle.port.specs.declared.Port.{Port}
 use Rattle.port.specs.declared.Request.{Request}
-use Rattle.port.specs.Records.{place_count, empty_place, with_places}
+use Rattle.port.specs.Records.{place_count}
 use Rattle.port.specs.Places.{first_at, is_empty, sum_over, count_waiting}
-use Rattle.port.specs.Waiting.{is_found, ended_at, is_full}
-use Rattle.port.specs.PortContracts.{emptied_within, ended_within}
+use Rattle.port.specs.Waiting.{is_found, is_full}
 
 pub is_found_law : {place found : ℕ} → place ≡ found → place < place_count → is_found found ≡ true
 is_found_law e h = lt-ltb _ _ (subst (λ (n : ℕ). n < place_count) e h)
 
 pub not_found : {place found : ℕ} → place ≡ found → place_count ≤ place → is_found found ≡ false
 not_found e h = le-ltb _ _ (subst (λ (n : ℕ). place_count ≤ n) e h)
-
--- a port whose places are emptied so is one whose request ends so
-pub ended_in_law : (p : Port) (place : ℕ) → with_places p (emptied_within p.places place) ≡ ended_within p place
-unfolding emptied_within ended_within ended_at with_places
-ended_in_law p place = by (is_found place)
-  where
-    by : (b : Bool) → with_places p (cond b (set p.places place empty_place) p.places) ≡ cond b (ended_at p place) p
-    by true = refl
-    by false = refl
-
-pub ended_found : (p : Port) {place : ℕ} → place < place_count → ended_within p place ≡ ended_at p place
-unfolding ended_within
-ended_found p h = simp (lt-ltb _ _ h)
-
-pub ended_none : (p : Port) → ended_within p place_count ≡ p
-unfolding ended_within
-ended_none p = refl
 
 -- no more requests wait than there are places
 pub few_waiting : (places : List Request) → count_waiting places ≤ length places

@@ -1,9 +1,9 @@
 // What one port holds, and its places for waiting requests.
-ghost use Rattle.std.specs.Prelude.{◌≡◌, ◌≤◌, set};
+ghost use Rattle.std.specs.Prelude.{◌≡◌, ◌-◌, ◌≤◌, set};
 ghost use Rattle.port.specs.Records.{fresh_port, made_fresh, empty_place, request_in, feature_at, with_version, with_battery, with_serial, with_features, with_places, with_link, with_pairing};
 ghost use Rattle.port.specs.Places.{matches, first_at, is_empty, one_if_waiting, count_waiting};
 ghost use Rattle.port.specs.Searching.{Searches};
-ghost use Rattle.port.specs.Ticks.{tick_rule};
+ghost use Rattle.port.specs.Ticks.{after_tick, one_if_ending, tick_rule};
 
 pub mod answer;
 pub mod waiting;
@@ -201,7 +201,38 @@ pub struct Ticked {
     pub ended: u8,
 }
 
-// A request with one tick left ends, and any other has one tick less. An empty place is not written.
+// One tick less; 0 stays 0.
+fn one_less(ticks: u8) -> u8
+    ensures { result ≡ ticks - 1 }
+{
+    if ticks == 0 {
+        return 0;
+    }
+    ticks - 1
+}
+
+// One place after one tick: an empty one stays, a request with one tick left ends, any other has one tick less.
+fn lowered(request: Request) -> Request
+    ensures { result ≡ after_tick request }
+{
+    if request.ticks == 1 {
+        return empty_place();
+    }
+    let mut next = request;
+    next.ticks = one_less(request.ticks);
+    next
+}
+
+fn one_if_ending(request: Request) -> u8
+    ensures counted { result ≡ one_if_ending request }
+    ensures one { result ≤ 1 }
+{
+    if request.ticks == 1 {
+        return 1;
+    }
+    0
+}
+
 pub fn tick(places: [Request; PLACES]) -> Ticked
     ensures ticked { result ≡ tick_rule places }
 {
@@ -209,13 +240,9 @@ pub fn tick(places: [Request; PLACES]) -> Ticked
     let mut ended: u8 = 0;
     let mut i = 0;
     while i < PLACES {
-        let ticks = places[i].ticks;
-        if 1 < ticks {
-            next[i].ticks = ticks - 1;
-        } else if ticks == 1 {
-            next[i] = empty_place();
-            ended = ended + 1;
-        }
+        let request = places[i];
+        ended = ended + one_if_ending(request);
+        next[i] = lowered(request);
         i += 1;
     }
     Ticked {

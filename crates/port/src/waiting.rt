@@ -1,7 +1,7 @@
 // The waiting requests of one port: where one may wait, and how one ends.
 ghost use Rattle.std.specs.Prelude.{◌≡◌};
-ghost use Rattle.port.specs.Waiting.{room_for, cancel_at};
-ghost use Rattle.port.specs.PortContracts.{room_of, emptied_within, ended_within, cancel_result};
+ghost use Rattle.port.specs.Waiting.{ended_at, room_for, cancel_at};
+ghost use Rattle.port.specs.PortContracts.{room_of, cancel_result};
 
 use crate::{Port, Request};
 use report::{FeatureIndex, Refusal};
@@ -19,30 +19,19 @@ pub enum Cancelled {
     Done,
 }
 
-// What a cancel comes to at its port: the answer, and the place of the request that it ends, or crate::PLACES.
+// What cancel gives at its port: the answer, and the port after it.
 #[derive(Drop)]
 pub struct PortCancelled {
     pub answer: Cancelled,
-    pub ended: usize,
+    pub port: Port,
 }
 
-// The places without the request of this one; past the last nothing changes.
-fn emptied(places: [Request; crate::PLACES], place: usize) -> [Request; crate::PLACES]
-    ensures { result ≡ emptied_within places place }
-{
-    let mut next = places;
-    if place < crate::PLACES {
-        next[place] = crate::empty_place();
-    }
-    next
-}
-
-// The port without the request of this place; past the last nothing changes.
+// The port without the request of this place.
 pub fn end_at(port: Port, place: usize) -> Port
-    ensures ended { result ≡ ended_within port place }
+    ensures ended { result ≡ ended_at port place }
 {
     let places = port.places;
-    let next = emptied(places, place);
+    let next = crate::with_request(places, place, crate::empty_place());
     crate::with_places(port, next)
 }
 
@@ -60,20 +49,20 @@ pub fn room_for(places: [Request; crate::PLACES], byte2: FeatureIndex, byte3: u8
     Admission::Refused(Refusal::PlacesFull)
 }
 
-// Which request a cancel with these bytes 2 and 3 ends.
+// Ends the request with these bytes 2 and 3.
 pub fn cancel(port: Port, byte2: FeatureIndex, byte3: u8) -> PortCancelled
-    ensures cancelled { cancel_result port result ≡ cancel_at port byte2.0 byte3 }
+    ensures cancelled { cancel_result result ≡ cancel_at port byte2.0 byte3 }
 {
     let places = port.places;
     let place = crate::first_match(places, byte2, byte3);
     if place < crate::PLACES {
         return PortCancelled {
             answer: Cancelled::Done,
-            ended: place,
+            port: end_at(port, place),
         };
     }
     PortCancelled {
         answer: Cancelled::Refused(Refusal::NotWaiting),
-        ended: crate::PLACES,
+        port,
     }
 }

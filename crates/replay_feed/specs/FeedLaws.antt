@@ -286,8 +286,8 @@ module _ (s : State) (b : List ℕ) (room : ℕ) (ordered : s.start ≤ s.size) 
         filled = omega arith;
       }
 
-  pub ended_within_law : s.size + 1 ≤ length ended
-  ended_within_law = omega (arith, free, length-set b s.size newline)
+  pub ended_within : s.size + 1 ≤ length ended
+  ended_within = omega (arith, free, length-set b s.size newline)
 
   ended_is : drop s.start (take (s.size + 1) ended) ≡ held_of s b ++ (newline ∷ [])
   ended_is =

@@ -5,5 +5,4 @@ pub mod StationContracts
 pub mod StationPromises
 pub mod StationsLaws
 pub mod StationTakingLaws
-pub mod StationExitLaws
 pub mod StationCallsLaws

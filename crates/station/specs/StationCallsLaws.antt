@@ -1,9 +1,8 @@
 -- Laws of request, cancel and tick: what the program stores is what the rule gives.
-use Rattle.std.specs.Prelude.{ℕ, ◌≡◌, Bool, List, map}
+use Rattle.std.specs.Prelude.{ℕ, ◌≡◌, Bool, List, map, set}
 use Rattle.std.proofs.Math.Path.{refl, ap}
 use Rattle.std.proofs.Common.{◌∙◌}
 use Rattle.std.proofs.Math.Bool.{true, false}
-use Rattle.std.proofs.Math.ListN.{set}
 use Rattle.report.specs.Refusals.{no_such_port}
 use Rattle.report.specs.Ports.{is_port}
 use Rattle.frame.specs.Writing as writing
@@ -13,35 +12,20 @@ use Rattle.port.specs.declared.Ticked.{Ticked}
 use Rattle.port.specs.Records.{with_places}
 use Rattle.port.specs.Ticks.{tick_rule}
 use Rattle.port.specs.Waiting as waiting
-use Rattle.port.specs.PortContracts.{ended_within, cancel_result}
+use Rattle.port.specs.PortContracts.{cancel_result}
 use Rattle.request.specs.declared.PortRequested.{PortRequested}
 use Rattle.request.specs.RequestContracts.{checked_request, requested_of}
 use Rattle.station.specs.declared.Station.{Station}
 use Rattle.station.specs.Stations.{position_of, port_at, with_port}
 use Rattle.station.specs.StationsLaws.{same_port}
-use Rattle.station.specs.StationCalls.{TickOutcome, RequestOutcome, requested_at, request_rule, CancelOutcome, cancelled_at, cancel_rule, ticked_port, ended_on, tick_all}
-use Rattle.station.specs.StationContracts.{checked_cancel, request_outcome, cancel_outcome}
+use Rattle.station.specs.StationCalls.{TickOutcome, RequestOutcome, requested_at, request_rule, cancelled_at, cancel_rule, ticked_port, ended_on, tick_all}
+use Rattle.station.specs.StationContracts.{request_outcome, cancel_outcome}
 
-module _ (st : Station) (device byte2 byte3 : ℕ) where
-  cancelled : ℕ → CancelOutcome
-  cancelled position = cancelled_at st position (checked_cancel (port_at st position) device byte2 byte3)
-
-  -- 5 leaves the port as it stood, and so the station
-  at_cancelled : (b : Bool) → is_port device ≡ b → cancelled (position_of device) ≡ cancel_rule st device byte2 byte3
-  unfolding cancelled checked_cancel cancel_rule
-  at_cancelled true e = simp e
-  at_cancelled false e = simp e (ap (λ (s : Station). refused s) (same_port st (position_of device)))
-    where
-      refused : Station → CancelOutcome
-      refused s = record { answer = waiting.CancelAnswer.refused no_such_port; station = s }
-
-  pub cancelled_at_law : (c : PortCancelled) {position : ℕ} {next : Port} → position ≡ position_of device → cancel_result (port_at st position) c ≡ checked_cancel (port_at st position) device byte2 byte3 → next ≡ ended_within (port_at st position) c.ended → cancel_outcome (record { answer = c.answer; station = record { ports = set st.ports position next } }) ≡ cancel_rule st device byte2 byte3
-  unfolding cancelled with_port
-  cancelled_at_law c {position} e r n =
-      ap (λ (q : Port). cancel_outcome (record { answer = c.answer; station = record { ports = set st.ports position q } })) n
-      ∙ ap (cancelled_at st position) r
-      ∙ ap cancelled e
-      ∙ at_cancelled (is_port device) refl
+pub cancelled_at_law : (st : Station) (device byte2 byte3 : ℕ) (c : PortCancelled) {position : ℕ} → is_port device ≡ true → position ≡ position_of device → cancel_result c ≡ waiting.cancel_at (port_at st position) byte2 byte3 → cancel_outcome (record { answer = c.answer; station = record { ports = set st.ports position c.port } }) ≡ cancel_rule st device byte2 byte3
+unfolding cancel_rule with_port
+cancelled_at_law st device byte2 byte3 c {position} port e r =
+    simp port
+    (ap (cancelled_at st position) r ∙ ap (λ (i : ℕ). cancelled_at st i (waiting.cancel_at (port_at st i) byte2 byte3)) e)
 
 module _ (st : Station) (device byte2 byte3 ticks : ℕ) (params : List ℕ) (offset : ℕ) (lent : List ℕ) where
   asked : ℕ → RequestOutcome

@@ -1,17 +1,15 @@
 // The station: seven ports, and the calls on them.
 ghost use Rattle.std.specs.Prelude.{◌≡◌, ◌<◌};
-ghost use Rattle.report.specs.ReportContracts.{reading_of};
-ghost use Rattle.port.specs.PortContracts.{taken_of, cancel_result};
+ghost use Rattle.port.specs.PortContracts.{taken_of};
 ghost use Rattle.station.specs.Stations.{fresh_station, position_of, port_count, number_at};
 ghost use Rattle.station.specs.StationTaking.{with_drops};
 ghost use Rattle.station.specs.StationCalls.{tick_all};
-ghost use Rattle.station.specs.StationContracts.{position_read, checked_cancel, tick_outcome};
+ghost use Rattle.station.specs.StationContracts.{tick_outcome};
 ghost use Rattle.station.specs.StationPromises.{TakePromise, RequestPromise, CancelPromise, TickPromise, SwitchPromise, GetPairedPromise, LedPromise, ListPromise, StorePromise, RestorePromise};
 
 use frame::Written;
-use hidpp::Told;
 use port::answer::{Notice, Taken};
-use port::waiting::{Cancelled, PortCancelled};
+use port::waiting::Cancelled;
 use port::{Port, waiting};
 use report::{Device, FeatureIndex, Reading, Refusal};
 use restore::Restored;
@@ -23,39 +21,39 @@ pub struct Station {
     pub ports: [Port; port::PORTS],
 }
 
-// What a take gives: the next station, and its answer. The station is the first field of every result, for speed (docs/PERFORMANCE.md, "Forms that pay").
+// What a take gives: its answer, and the next station.
 #[derive(Drop)]
 pub struct TakeResult {
-    pub station: Station,
     pub answer: Taken,
+    pub station: Station,
 }
 
-// What a request gives: the next station, and its answer.
+// What a request gives: its answer, and the next station.
 #[derive(Drop)]
 pub struct RequestResult {
-    pub station: Station,
     pub answer: Written,
+    pub station: Station,
 }
 
-// What a cancel gives: the next station, and its answer.
+// What a cancel gives: its answer, and the next station.
 #[derive(Drop)]
 pub struct CancelResult {
-    pub station: Station,
     pub answer: Cancelled,
+    pub station: Station,
 }
 
-// What a tick gives: the next station, and the number of requests that it ended on each port.
+// What a tick gives: the number of requests that it ended on each port, and the next station.
 #[derive(Drop)]
 pub struct TickResult {
-    pub station: Station,
     pub ended: [u8; port::PORTS],
+    pub station: Station,
 }
 
-// What reading a store gives: the next station, and its answer.
+// What reading a store gives: its answer, and the next station.
 #[derive(Drop)]
 pub struct RestoreResult {
-    pub station: Station,
     pub answer: Restored,
+    pub station: Station,
 }
 
 // The position of a port among the seven.
@@ -89,32 +87,6 @@ fn with_drops(answer: Taken, dropped: u8) -> Taken
     }
 }
 
-// The position of the port that a report is for; the receiver's where it is for none.
-fn position_read(reading: Reading) -> usize
-    ensures position { result ≡ position_read (reading_of reading) }
-    ensures within { result < port_count }
-{
-    match reading {
-        Reading::Refused(_) => port::PORTS - 1,
-        Reading::EmptyList(_) => port::PORTS - 1,
-        Reading::Hidpp(h) => position_of(h.device),
-        Reading::Dj(d) => position_of(d.device),
-    }
-}
-
-// What a cancel comes to at the port of a device: refusals 5 and 13.
-fn cancel_at(port: Port, device: Device, byte2: FeatureIndex, byte3: u8) -> PortCancelled
-    ensures { cancel_result port result ≡ checked_cancel port device.0 byte2.0 byte3 }
-{
-    if !report::is_port(device) {
-        return PortCancelled {
-            answer: Cancelled::Refused(Refusal::NoSuchPort),
-            ended: port::PLACES,
-        };
-    }
-    waiting::cancel(port, byte2, byte3)
-}
-
 fn tick_ports(ports: [Port; port::PORTS]) -> TickResult
     ensures { tick_outcome result ≡ tick_all (record { ports = ports }) }
 {
@@ -122,7 +94,7 @@ fn tick_ports(ports: [Port; port::PORTS]) -> TickResult
     let mut ended = [0; port::PORTS];
     let mut i = 0;
     while i < port::PORTS {
-        let port = next[i];
+        let port = ports[i];
         let places = port.places;
         let ticked = port::tick(places);
         let lowered = ticked.places;
@@ -131,8 +103,8 @@ fn tick_ports(ports: [Port; port::PORTS]) -> TickResult
         i += 1;
     }
     TickResult {
-        station: Station { ports: next },
         ended,
+        station: Station { ports: next },
     }
 }
 
@@ -150,52 +122,43 @@ impl Station {
     pub fn take(mut self, bytes: &[u8]) -> TakeResult
         ensures outcome { TakePromise self bytes.now result }
     {
-        let reading = report::read(bytes);
-        let position = position_read(reading);
-        let mut ended = port::PLACES;
-        let answer = match reading {
-            Reading::Refused(refusal) => Taken::Refused(refusal),
-            Reading::EmptyList(_) => Taken::Noticed(Notice::EmptyList),
+        match report::read(bytes) {
+            Reading::Refused(refusal) => TakeResult {
+                answer: Taken::Refused(refusal),
+                station: self,
+            },
+            Reading::EmptyList(_) => TakeResult {
+                answer: Taken::Noticed(Notice::EmptyList),
+                station: self,
+            },
             Reading::Hidpp(h) => {
-                let given = serial::given_by(self.ports[position], h, bytes);
-                let taken = hidpp::take_at(self.ports[position], h, bytes);
+                let position = position_of(h.device);
+                let port = self.ports[position];
+                let given = serial::given_by(port, h, bytes);
+                let taken = hidpp::take_at(port, h, bytes);
                 let answer = taken.answer;
-                let told = taken.told;
-                ended = taken.ended;
+                let next = taken.port;
+                self.ports[position] = next;
                 match given {
-                    // The port is read anew where it changes, and a battery is kept by a way of its own, for speed.
-                    Given::Nothing => {
-                        match told {
-                            Told::Nothing => {}
-                            Told::Battery {
-                                level,
-                                next,
-                                status,
-                                up,
-                            } => {
-                                let port = self.ports[position];
-                                let charged = hidpp::with_charge(port, level, next, status, up);
-                                self.ports[position] = charged;
-                            }
-                            _ => {
-                                let port = self.ports[position];
-                                let next = hidpp::with_told(port, told);
-                                self.ports[position] = next;
-                            }
-                        }
-                        answer
-                    }
-                    // A serial goes to its device's port.
+                    Given::Nothing => TakeResult {
+                        answer,
+                        station: self,
+                    },
+                    // A serial goes to its device's port. Written out for speed: handed to a function and back, the station is copied (docs/PERFORMANCE.md, "What a serial costs").
                     Given::Serial { device, number } => {
                         let beside = position_of(device);
                         let kept = serial::keep(self.ports[beside], number);
                         let other = kept.port;
                         self.ports[beside] = other;
-                        with_drops(answer, kept.dropped)
+                        TakeResult {
+                            answer: with_drops(answer, kept.dropped),
+                            station: self,
+                        }
                     }
                 }
             }
             Reading::Dj(d) => {
+                let position = position_of(d.device);
                 let port = self.ports[position];
                 // A short way for speed: dj::take_at gives the same, with two copies of a port (docs/PERFORMANCE.md, "The way of a radio report").
                 let length = dj::accepted_length(
@@ -207,27 +170,24 @@ impl Station {
                 );
                 if length != 0 {
                     self.ports[position].up = true;
-                    Taken::Radio {
-                        kind: d.kind,
-                        start: report::DJ_START,
-                        length,
-                    }
-                } else {
-                    let taken = dj::take_at(port, d, bytes);
-                    let answer = taken.answer;
-                    let next = taken.port;
-                    self.ports[position] = next;
-                    answer
+                    return TakeResult {
+                        answer: Taken::Radio {
+                            kind: d.kind,
+                            start: report::DJ_START,
+                            length,
+                        },
+                        station: self,
+                    };
+                }
+                let taken = dj::take_at(port, d, bytes);
+                let answer = taken.answer;
+                let next = taken.port;
+                self.ports[position] = next;
+                TakeResult {
+                    answer,
+                    station: self,
                 }
             }
-        };
-        // The one exit. Where no request ends, `ended` is past the last place, and nothing changes.
-        let port = self.ports[position];
-        let next = waiting::end_at(port, ended);
-        self.ports[position] = next;
-        TakeResult {
-            station: self,
-            answer,
         }
     }
 
@@ -253,8 +213,8 @@ impl Station {
         let next = requested.port;
         self.ports[position] = next;
         RequestResult {
-            station: self,
             answer,
+            station: self,
         }
     }
 
@@ -262,16 +222,21 @@ impl Station {
     pub fn cancel(mut self, device: Device, byte2: FeatureIndex, byte3: u8) -> CancelResult
         ensures outcome { CancelPromise self device.0 byte2.0 byte3 result }
     {
+        if !report::is_port(device) {
+            return CancelResult {
+                answer: Cancelled::Refused(Refusal::NoSuchPort),
+                station: self,
+            };
+        }
         let position = position_of(device);
-        let cancelled = cancel_at(self.ports[position], device, byte2, byte3);
-        let answer = cancelled.answer;
-        let ended = cancelled.ended;
         let port = self.ports[position];
-        let next = waiting::end_at(port, ended);
+        let cancelled = waiting::cancel(port, byte2, byte3);
+        let answer = cancelled.answer;
+        let next = cancelled.port;
         self.ports[position] = next;
         CancelResult {
-            station: self,
             answer,
+            station: self,
         }
     }
 
@@ -329,8 +294,8 @@ impl Station {
         let answer = read.answer;
         let next = read.ports;
         RestoreResult {
-            station: Station { ports: next },
             answer,
+            station: Station { ports: next },
         }
     }
 }

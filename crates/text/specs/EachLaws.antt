@@ -1,6 +1,6 @@
 -- Laws of a loop that puts one text for each element, over any elements and any texts.
 use Prim.Native.Nat.{ℕ, zero, suc, ◌+◌, ◌*◌, ◌≤◌, ◌<◌}
-use Rattle.std.specs.Prelude.{◌≡◌, length, take, get_or}
+use Rattle.std.specs.Prelude.{◌≡◌, refl, length, take, get_or}
 use Rattle.std.proofs.Math.Path.{sym, ap}
 use Rattle.std.proofs.Common.{◌∙◌, subst, add-zero, mul-suc, le_of_suc-le-suc, not-suc-le-zero, add-one, take_all}
 use mathlib.Core.List.{List, [], ◌∷◌, ◌++◌, append_assoc, append-nil}
@@ -53,3 +53,15 @@ module _ {A : Type 0} {text : ℕ → A → List ℕ} {most count : ℕ} {xs : L
 
   pub each_done : length xs ≡ count → count ≤ i → Puts (most * count) (each text xs) at b₀ next b
   each_done all out = same_text (ap (each_from text 0) (take_all count xs (omega arith))) (each_counted out)
+
+-- a word is put byte by byte
+abbrev pub letter : ℕ → ℕ → List ℕ
+letter i byte = byte ∷ []
+
+letters : (n : ℕ) (word : List ℕ) → each_from letter n word ≡ word
+unfolding each_from
+letters n [] = refl
+letters n (c ∷ word) = ap (λ (l : List ℕ). c ∷ l) (letters (suc n) word)
+
+pub word_done : {word : List ℕ} {at : ℕ} {b₀ : List ℕ} {next : ℕ} {b : List ℕ} {i : ℕ} → Putting letter 1 (length word) word at b₀ next b i → length word ≤ i → Puts (length word) word at b₀ next b
+word_done {word} p out = same_text (letters 0 word) (at_most (length word) (omega arith) (each_done p refl out))

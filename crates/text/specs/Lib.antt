@@ -2,7 +2,6 @@ pub mod Words
 pub mod WordsLaws
 pub mod Putting
 pub mod PuttingLaws
-pub mod WordPuttingLaws
 pub mod Texts
 pub mod EachLaws
 pub mod PutDigitsLaws

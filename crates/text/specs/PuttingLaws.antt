@@ -13,7 +13,7 @@ use Rattle.text.specs.Putting.{Filled, filled, fitting, put_rule, Puts, whole_ru
 pasted_nothing : (at : ℕ) (b : List ℕ) → pasted [] at b ≡ b
 pasted_nothing at b = ap (λ (n : ℕ). take at b ++ drop n b) (add-zero at) ∙ take-append-drop at b
 
-pub pasted_part : (text part : List ℕ) (at : ℕ) (b : List ℕ) → fitting text at b ≡ part → put_rule text at b ≡ filled (at + length part) (pasted part at b)
+pasted_part : (text part : List ℕ) (at : ℕ) (b : List ℕ) → fitting text at b ≡ part → put_rule text at b ≡ filled (at + length part) (pasted part at b)
 unfolding put_rule
 pasted_part text part at b e = ap (λ (l : List ℕ). filled (at + length l) (pasted l at b)) e
 

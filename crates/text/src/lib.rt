@@ -1,5 +1,5 @@
 // Words, numbers and what a port holds, as bytes of text put into a lent buffer from an offset on.
-ghost use Rattle.std.specs.Prelude.{◌≡◌, [], ◌∷◌, ◌-◌, ◌^◌, ◌/◌, ◌%◌, ◌<◌, min, length};
+ghost use Rattle.std.specs.Prelude.{◌≡◌, [], ◌∷◌, ◌<◌, length};
 ghost use Rattle.frame.specs.Writing.{frame_at};
 ghost use Rattle.frame.specs.FrameContracts.{written_outcome};
 ghost use Rattle.text.specs.Words.{digit, hex, decimal};
@@ -35,6 +35,10 @@ pub const BATTERY_MOST: usize = 3 * BYTE_MOST + 2;
 
 pub const SERIAL_MOST: usize = DIGITS_32 as usize;
 
+const DIGITS: [u8; 16] = [
+    b'0', b'1', b'2', b'3', b'4', b'5', b'6', b'7', b'8', b'9', b'A', b'B', b'C', b'D', b'E', b'F',
+];
+
 // One byte. Every function here puts its text, or as much of it as fits, and answers the offset after it.
 pub fn put_byte(buffer: &mut [u8], at: usize, byte: u8) -> usize
     ensures put { Puts 1 (byte ∷ []) at buffer.old result buffer.new }
@@ -46,104 +50,53 @@ pub fn put_byte(buffer: &mut [u8], at: usize, byte: u8) -> usize
     at
 }
 
-// How many bytes of a text of this length fit between the offset and the end of a buffer of `room` bytes.
-fn fitting(length: usize, at: usize, room: usize) -> usize
-    ensures { result ≡ min length (room - at) }
-{
-    if room <= at {
-        return 0;
-    }
-    if room - at < length {
-        return room - at;
-    }
-    length
-}
-
-// The bytes of a word. The room is tested once, before the first of them.
+// The bytes of a word.
 pub fn put_word(buffer: &mut [u8], at: usize, word: &[u8]) -> usize
     ensures put { Puts (length word.now) word.now at buffer.old result buffer.new }
 {
-    let end = fitting(word.len(), at, buffer.len());
+    let mut next = at;
     let mut i = 0;
-    while i < end {
-        buffer[at + i] = word[i];
+    while i < word.len() {
+        next = put_byte(buffer, next, word[i]);
         i += 1;
     }
-    at + end
+    next
 }
 
-// One digit, hexadecimal in capitals.
-fn digit_byte(n: u8) -> u8
-    requires { n < 16 }
-    ensures { result ≡ digit n }
-{
-    if n < 10 {
-        return n + b'0';
-    }
-    n - 10 + b'A'
-}
-
-fn put_digit(buffer: &mut [u8], at: usize, n: u8) -> usize
+fn put_digit(buffer: &mut [u8], at: usize, n: usize) -> usize
     requires { n < 16 }
     ensures { Puts 1 (digit n ∷ []) at buffer.old result buffer.new }
 {
-    put_byte(buffer, at, digit_byte(n))
-}
-
-// The hexadecimal digit of a number with `i` digits after it.
-fn hex_digit(n: usize, i: u8) -> u8
-    ensures { result ≡ n / 16 ^ i % 16 }
-{
-    if i < 16 {
-        return ((n >> (4 * i)) % 16) as u8;
-    }
-    0
+    put_byte(buffer, at, DIGITS[n])
 }
 
 // Hexadecimal in capitals: the last `width` digits.
 pub fn put_hex(buffer: &mut [u8], at: usize, width: u8, n: usize) -> usize
     ensures put { Puts width (hex width n) at buffer.old result buffer.new }
 {
-    let mut next = at;
-    let mut left = width;
-    while 0 < left {
-        left -= 1;
-        next = put_digit(buffer, next, hex_digit(n, left));
+    if width == 0 {
+        return at;
     }
-    next
+    let end = put_hex(buffer, at, width - 1, n / 16);
+    put_digit(buffer, end, n % 16)
 }
 
-// Decimal, without a leading zero: its digits from the last to the first, and then the word that they make.
+// Decimal, without a leading zero.
 pub fn put_decimal(buffer: &mut [u8], at: usize, n: usize) -> usize
     ensures put { Puts number_most (decimal n) at buffer.old result buffer.new }
-{
-    let mut digits = [0; NUMBER_MOST];
-    let mut i = NUMBER_MOST;
-    let mut rest = n;
-    while 10 <= rest {
-        i -= 1;
-        digits[i] = digit_byte((rest % 10) as u8);
-        rest = rest / 10;
-    }
-    i -= 1;
-    digits[i] = digit_byte(rest as u8);
-    put_word(buffer, at, &digits[i..])
-}
-
-// A byte in decimal: one, two or three digits.
-pub fn put_small(buffer: &mut [u8], at: usize, n: u8) -> usize
-    ensures put { Puts byte_most (decimal n) at buffer.old result buffer.new }
 {
     if n < 10 {
         return put_digit(buffer, at, n);
     }
-    if n < 100 {
-        let at = put_digit(buffer, at, n / 10);
-        return put_digit(buffer, at, n % 10);
-    }
-    let at = put_digit(buffer, at, n / 100);
-    let at = put_digit(buffer, at, n / 10 % 10);
-    put_digit(buffer, at, n % 10)
+    let end = put_decimal(buffer, at, n / 10);
+    put_digit(buffer, end, n % 10)
+}
+
+// A byte in decimal.
+pub fn put_small(buffer: &mut [u8], at: usize, n: u8) -> usize
+    ensures put { Puts byte_most (decimal n) at buffer.old result buffer.new }
+{
+    put_decimal(buffer, at, n as usize)
 }
 
 pub fn put_link(buffer: &mut [u8], at: usize, up: bool) -> usize

@@ -1,7 +1,7 @@
 -- `hidpp::take_at` meets its contract.
+use borrow.Author.Rules.{rules}
 use mathlib.Core.Path.{◌∙◌, ap}
 use Rattle.hidpp.specs.HidppTaking.{take_hidpp}
-use borrow.Author.Rules.{rules}
 use Rattle.hidpp.proofs.take_at.Statement.{statement}
 use Rattle.hidpp.proofs.take_at.Tie as tie
 

@@ -17,12 +17,14 @@ returns-2 c = simp (sym c.before.before.before.before.before.is-error.ensures �
 
 returns-3 : tie.Need-returns-3
 unfolding take_hidpp
-returns-3 c = let none = not_found c.before.before.before.before.first-answered.ensures.0 c.before.before.before.if2.false in
-    simp (sym c.before.before.before.before.before.before.before.is-error.ensures ∙ c.before.before.before.before.before.before.if1.false, none) (c.stray.ensures _ ∙ ping_stray _ _ none (sym c.before.before.has-ping.ensures ∙ c.before.if3.true))
+returns-3 c =
+    let none = not_found c.before.before.before.before.first-answered.ensures.0 c.before.before.before.if2.false in
+    simp (sym c.before.before.before.before.before.before.before.is-error.ensures ∙ c.before.before.before.before.before.before.if1.false, none) (c.stray.ensures ∙ ping_stray _ _ none (sym c.before.before.has-ping.ensures ∙ c.before.if3.true))
 
 returns-4 : tie.Need-returns-4
 unfolding take_hidpp
-returns-4 c = let none = not_found c.before.before.before.before.first-answered.ensures.0 c.before.before.before.if2.false in
+returns-4 c =
+    let none = not_found c.before.before.before.before.first-answered.ensures.0 c.before.before.before.if2.false in
     simp (sym c.before.before.before.before.before.before.before.is-error.ensures ∙ c.before.before.before.before.before.before.if1.false, none) (c.take-unasked.ensures ∙ rules_go_on _ _ none (sym c.before.before.has-ping.ensures ∙ c.before.if3.false))
 
 pub take-message-spec : {M : Type 1} → statement M

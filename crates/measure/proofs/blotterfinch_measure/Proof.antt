@@ -1,7 +1,7 @@
 -- `measure::blotterfinch_measure` meets its contract. The loop's state is `Running`: what the first i calls have come to.
 use Rattle.std.proofs.Common.{◌-◌, ◌*◌, refl, arith, rules}
 use Rattle.measure.specs.MeasuredCalls.{call_size}
-use Rattle.measure.specs.MeasuredCallsLaws.{Running, begun, more, finished, lent_part, take_turn, request_turn, cancel_turn, tick_turn, store_turn, restore_turn, look_turn, list_turn}
+use Rattle.measure.specs.MeasuredCallsLaws.{Running, begun, more, finished, lent_part, take_turn, request_turn, cancel_turn, tick_turn, store_turn, restore_turn, list_turn}
 use Rattle.measure.proofs.blotterfinch_measure.Statement.{statement}
 use Rattle.measure.proofs.blotterfinch_measure.Tie as tie
 
@@ -27,16 +27,13 @@ loop-again-4 : tie.Need-loop-preserved-4 invariant-loop decreases-loop
 loop-again-4 c = more c.before.before.before.before.before.before.before.before.before.before.before.before.before.before.loop.invariant c.before.before.before.before.before.before.before.before.before.before.before.before.before.loop-test.true refl (tick_turn _ _ _ _ _ _ c.wrapping-add-u644.ensures c.before.before.before.before.tick.result c.before.before.before.before.before.match.keys4 c.before.before.before.before.tick.ensures c.before.tick-weight.ensures)
 
 loop-again-5 : tie.Need-loop-preserved-5 invariant-loop decreases-loop
-loop-again-5 c = more c.before.before.before.before.before.before.before.before.before.before.before.before.loop.invariant c.before.before.before.before.before.before.before.before.before.before.before.loop-test.true refl (look_turn _ _ _ _ _ _ c.wrapping-add-u645.ensures c.before.before.before.match.keys5 c.before.before.position-of.ensures.0 c.before.link-weight.ensures)
+loop-again-5 c = more c.before.before.before.before.before.before.before.before.before.before.before.before.before.before.before.loop.invariant c.before.before.before.before.before.before.before.before.before.before.before.before.before.before.loop-test.true (search rules) (store_turn _ _ _ _ _ _ c.wrapping-add-u645.ensures c.before.before.before.before.store.result c.before.before.before.before.before.before.match.keys5 c.before.before.before.before.store.ensures c.before.write-weight2.ensures)
 
 loop-again-6 : tie.Need-loop-preserved-6 invariant-loop decreases-loop
-loop-again-6 c = more c.before.before.before.before.before.before.before.before.before.before.before.before.before.before.before.loop.invariant c.before.before.before.before.before.before.before.before.before.before.before.before.before.before.loop-test.true (search rules) (store_turn _ _ _ _ _ _ c.wrapping-add-u646.ensures c.before.before.before.before.store.result c.before.before.before.before.before.before.match.keys6 c.before.before.before.before.store.ensures c.before.write-weight2.ensures)
+loop-again-6 c = more c.before.before.before.before.before.before.before.before.before.before.before.before.before.loop.invariant c.before.before.before.before.before.before.before.before.before.before.before.before.loop-test.true refl (restore_turn _ _ _ _ _ _ c.wrapping-add-u646.ensures c.before.before.before.restore.result c.before.before.before.before.match.keys6 c.before.before.before.restore.ensures c.before.restore-weight.ensures)
 
 loop-again-7 : tie.Need-loop-preserved-7 invariant-loop decreases-loop
-loop-again-7 c = more c.before.before.before.before.before.before.before.before.before.before.before.before.before.loop.invariant c.before.before.before.before.before.before.before.before.before.before.before.before.loop-test.true refl (restore_turn _ _ _ _ _ _ c.wrapping-add-u647.ensures c.before.before.before.restore.result c.before.before.before.before.match.keys7 c.before.before.before.restore.ensures c.before.restore-weight.ensures)
-
-loop-again-8 : tie.Need-loop-preserved-8 invariant-loop decreases-loop
-loop-again-8 c = more c.before.before.before.before.before.before.before.before.before.before.before.before.before.before.before.loop.invariant c.before.before.before.before.before.before.before.before.before.before.before.before.before.before.loop-test.true (search rules) (list_turn _ _ _ _ _ _ c.wrapping-add-u648.ensures c.before.before.before.before.list.result c.before.before.before.before.before.before.match.rest.0.0.0.0.0.0.1 c.before.before.before.before.before.before.match.rest.0.0.0.0.0.1 c.before.before.before.before.before.before.match.rest.0.0.0.0.1 c.before.before.before.before.before.before.match.rest.0.0.0.1 c.before.before.before.before.before.before.match.rest.0.1 c.before.before.before.before.before.before.match.rest.1 c.before.before.before.before.before.before.match.rest.0.0.1 c.before.before.before.before.list.ensures c.before.write-weight3.ensures)
+loop-again-7 c = more c.before.before.before.before.before.before.before.before.before.before.before.before.before.before.before.loop.invariant c.before.before.before.before.before.before.before.before.before.before.before.before.before.before.loop-test.true (search rules) (list_turn _ _ _ _ _ _ c.wrapping-add-u647.ensures c.before.before.before.before.list.result c.before.before.before.before.before.before.match.rest.0.0.0.0.0.1 c.before.before.before.before.before.before.match.rest.0.0.0.0.1 c.before.before.before.before.before.before.match.rest.0.0.0.1 c.before.before.before.before.before.before.match.rest.0.0.1 c.before.before.before.before.before.before.match.rest.0.1 c.before.before.before.before.before.before.match.rest.1 c.before.before.before.before.list.ensures c.before.write-weight3.ensures)
 
 same_length : tie.Need-same-length invariant-loop decreases-loop
 same_length c = c.before.loop.invariant.long
@@ -96,8 +93,6 @@ blotterfinch-measure-spec =
     (λ c. omega arith)
     loop-again-4
     (λ c κs. search rules)
-    (λ c. search rules)
-    (λ c. search rules)
     (λ c κs. search rules)
     (λ c κs. search rules)
     (λ c. omega arith)
@@ -112,10 +107,5 @@ blotterfinch-measure-spec =
     (λ c κs. search rules)
     (λ c. omega arith)
     loop-again-7
-    (λ c κs. search rules)
-    (λ c κs. search rules)
-    (λ c κs. search rules)
-    (λ c. omega arith)
-    loop-again-8
     same_length
     returns)

@@ -2,7 +2,7 @@
 use native.Mathlib.Omega.{arith}
 use lib.ListN.{length}
 use mathlib.Core.Path.{refl}
-use Rattle.replay_feed.specs.FeedLaws.{nothing_left, nothing_stands, ended_within_law, last_answered, waits_at_end, ends, left_stands}
+use Rattle.replay_feed.specs.FeedLaws.{nothing_left, nothing_stands, ended_within, last_answered, waits_at_end, ends, left_stands}
 use borrow.Author.Rules.{rules}
 use Rattle.replay_feed.proofs.feed.finish.Statement.{statement}
 use Rattle.replay_feed.proofs.feed.finish.Tie as tie
@@ -11,13 +11,13 @@ returns : tie.Need-returns
 returns c = (nothing_left c.before.before.before.before.args.state c.before.before.before.before.args.buffer.now (length c.before.before.before.before.args.output.now) c.before.before.before.before.requires.0 c.before.before.before.before.requires.1 c.before.before.before.before.args.output.now c.if1.true, (nothing_stands c.before.before.before.before.args.state c.before.before.before.before.args.buffer.now (length c.before.before.before.before.args.output.now) c.before.before.before.before.requires.0 c.before.before.before.before.requires.1 c.before.before.before.before.args.output.now, refl))
 
 part-answer-lines-end : tie.Need-slice-bounds-answer-lines-end
-part-answer-lines-end c = ended_within_law c.before.before.before.before.before.args.state c.before.before.before.before.before.args.buffer.now (length c.before.before.before.before.before.args.output.now) c.before.before.before.before.before.requires.0 c.before.before.before.before.before.requires.1
+part-answer-lines-end c = ended_within c.before.before.before.before.before.args.state c.before.before.before.before.before.args.buffer.now (length c.before.before.before.before.before.args.output.now) c.before.before.before.before.before.requires.0 c.before.before.before.before.before.requires.1
 
 returns-2 : tie.Need-returns-2
-returns-2 c = (last_answered c.before.before.before.before.before.before.before.before.before.before.before.before.before.args.state c.before.before.before.before.before.before.before.before.before.before.before.before.before.args.buffer.now (length c.before.before.before.before.before.before.before.before.before.before.before.before.before.args.output.now) c.before.before.before.before.before.before.before.before.before.before.before.before.before.requires.0 c.before.before.before.before.before.before.before.before.before.before.before.before.before.requires.1 c.before.before.before.before.before.before.before.before.before.if1.false (waits_at_end _ _ _ _ _ (omega (arith, c.before.before.before.before.before.before.before.before.before.before.before.before.before.requires.0)) (ended_within_law c.before.before.before.before.before.before.before.before.before.before.before.before.before.args.state c.before.before.before.before.before.before.before.before.before.before.before.before.before.args.buffer.now (length c.before.before.before.before.before.before.before.before.before.before.before.before.before.args.output.now) c.before.before.before.before.before.before.before.before.before.before.before.before.before.requires.0 c.before.before.before.before.before.before.before.before.before.before.before.before.before.requires.1) c.before.before.before.before.before.answer-lines.result _ _ c.before.before.before.before.before.answer-lines.ensures.0 c.if2.true), (left_stands _ _ _ _ _ (omega (arith, c.before.before.before.before.before.before.before.before.before.before.before.before.before.requires.0)) (ended_within_law c.before.before.before.before.before.before.before.before.before.before.before.before.before.args.state c.before.before.before.before.before.before.before.before.before.before.before.before.before.args.buffer.now (length c.before.before.before.before.before.before.before.before.before.before.before.before.before.args.output.now) c.before.before.before.before.before.before.before.before.before.before.before.before.before.requires.0 c.before.before.before.before.before.before.before.before.before.before.before.before.before.requires.1) c.before.before.before.before.before.answer-lines.result _ _ c.before.before.before.before.before.answer-lines.ensures.0 _ _ c.before.before.before.before.before.answer-lines.ensures.1.1.0 c.before.before.before.before.before.answer-lines.ensures.1.1.1, c.before.before.before.before.before.answer-lines.ensures.1.0))
+returns-2 c = (last_answered c.before.before.before.before.before.before.before.before.before.before.before.before.before.args.state c.before.before.before.before.before.before.before.before.before.before.before.before.before.args.buffer.now (length c.before.before.before.before.before.before.before.before.before.before.before.before.before.args.output.now) c.before.before.before.before.before.before.before.before.before.before.before.before.before.requires.0 c.before.before.before.before.before.before.before.before.before.before.before.before.before.requires.1 c.before.before.before.before.before.before.before.before.before.if1.false (waits_at_end _ _ _ _ _ (omega (arith, c.before.before.before.before.before.before.before.before.before.before.before.before.before.requires.0)) (ended_within c.before.before.before.before.before.before.before.before.before.before.before.before.before.args.state c.before.before.before.before.before.before.before.before.before.before.before.before.before.args.buffer.now (length c.before.before.before.before.before.before.before.before.before.before.before.before.before.args.output.now) c.before.before.before.before.before.before.before.before.before.before.before.before.before.requires.0 c.before.before.before.before.before.before.before.before.before.before.before.before.before.requires.1) c.before.before.before.before.before.answer-lines.result _ _ c.before.before.before.before.before.answer-lines.ensures.0 c.if2.true), (left_stands _ _ _ _ _ (omega (arith, c.before.before.before.before.before.before.before.before.before.before.before.before.before.requires.0)) (ended_within c.before.before.before.before.before.before.before.before.before.before.before.before.before.args.state c.before.before.before.before.before.before.before.before.before.before.before.before.before.args.buffer.now (length c.before.before.before.before.before.before.before.before.before.before.before.before.before.args.output.now) c.before.before.before.before.before.before.before.before.before.before.before.before.before.requires.0 c.before.before.before.before.before.before.before.before.before.before.before.before.before.requires.1) c.before.before.before.before.before.answer-lines.result _ _ c.before.before.before.before.before.answer-lines.ensures.0 _ _ c.before.before.before.before.before.answer-lines.ensures.1.1.0 c.before.before.before.before.before.answer-lines.ensures.1.1.1, c.before.before.before.before.before.answer-lines.ensures.1.0))
 
 returns-3 : tie.Need-returns-3
-returns-3 c = (last_answered c.before.before.before.before.before.before.before.before.before.before.before.before.before.args.state c.before.before.before.before.before.before.before.before.before.before.before.before.before.args.buffer.now (length c.before.before.before.before.before.before.before.before.before.before.before.before.before.args.output.now) c.before.before.before.before.before.before.before.before.before.before.before.before.before.requires.0 c.before.before.before.before.before.before.before.before.before.before.before.before.before.requires.1 c.before.before.before.before.before.before.before.before.before.if1.false (ends _ _ _ _ _ (omega (arith, c.before.before.before.before.before.before.before.before.before.before.before.before.before.requires.0)) (ended_within_law c.before.before.before.before.before.before.before.before.before.before.before.before.before.args.state c.before.before.before.before.before.before.before.before.before.before.before.before.before.args.buffer.now (length c.before.before.before.before.before.before.before.before.before.before.before.before.before.args.output.now) c.before.before.before.before.before.before.before.before.before.before.before.before.before.requires.0 c.before.before.before.before.before.before.before.before.before.before.before.before.before.requires.1) c.before.before.before.before.before.answer-lines.result _ _ c.before.before.before.before.before.answer-lines.ensures.0 c.if2.false), (left_stands _ _ _ _ _ (omega (arith, c.before.before.before.before.before.before.before.before.before.before.before.before.before.requires.0)) (ended_within_law c.before.before.before.before.before.before.before.before.before.before.before.before.before.args.state c.before.before.before.before.before.before.before.before.before.before.before.before.before.args.buffer.now (length c.before.before.before.before.before.before.before.before.before.before.before.before.before.args.output.now) c.before.before.before.before.before.before.before.before.before.before.before.before.before.requires.0 c.before.before.before.before.before.before.before.before.before.before.before.before.before.requires.1) c.before.before.before.before.before.answer-lines.result _ _ c.before.before.before.before.before.answer-lines.ensures.0 _ _ c.before.before.before.before.before.answer-lines.ensures.1.1.0 c.before.before.before.before.before.answer-lines.ensures.1.1.1, c.before.before.before.before.before.answer-lines.ensures.1.0))
+returns-3 c = (last_answered c.before.before.before.before.before.before.before.before.before.before.before.before.before.args.state c.before.before.before.before.before.before.before.before.before.before.before.before.before.args.buffer.now (length c.before.before.before.before.before.before.before.before.before.before.before.before.before.args.output.now) c.before.before.before.before.before.before.before.before.before.before.before.before.before.requires.0 c.before.before.before.before.before.before.before.before.before.before.before.before.before.requires.1 c.before.before.before.before.before.before.before.before.before.if1.false (ends _ _ _ _ _ (omega (arith, c.before.before.before.before.before.before.before.before.before.before.before.before.before.requires.0)) (ended_within c.before.before.before.before.before.before.before.before.before.before.before.before.before.args.state c.before.before.before.before.before.before.before.before.before.before.before.before.before.args.buffer.now (length c.before.before.before.before.before.before.before.before.before.before.before.before.before.args.output.now) c.before.before.before.before.before.before.before.before.before.before.before.before.before.requires.0 c.before.before.before.before.before.before.before.before.before.before.before.before.before.requires.1) c.before.before.before.before.before.answer-lines.result _ _ c.before.before.before.before.before.answer-lines.ensures.0 c.if2.false), (left_stands _ _ _ _ _ (omega (arith, c.before.before.before.before.before.before.before.before.before.before.before.before.before.requires.0)) (ended_within c.before.before.before.before.before.before.before.before.before.before.before.before.before.args.state c.before.before.before.before.before.before.before.before.before.before.before.before.before.args.buffer.now (length c.before.before.before.before.before.before.before.before.before.before.before.before.before.args.output.now) c.before.before.before.before.before.before.before.before.before.before.before.before.before.requires.0 c.before.before.before.before.before.before.before.before.before.before.before.before.before.requires.1) c.before.before.before.before.before.answer-lines.result _ _ c.before.before.before.before.before.answer-lines.ensures.0 _ _ c.before.before.before.before.before.answer-lines.ensures.1.1.0 c.before.before.before.before.before.answer-lines.ensures.1.1.1, c.before.before.before.before.before.answer-lines.ensures.1.0))
 
 pub finish_spec : {M : Type 1} → statement M
 finish_spec =
