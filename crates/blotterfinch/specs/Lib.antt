@@ -1,2 +1,1 @@
 pub mod CContracts
-pub mod CLaws

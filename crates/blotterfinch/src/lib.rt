@@ -1,4 +1,6 @@
 // The functions exported to C, over byte slices and numbers. The C side is include/blotterfinch.h.
+#![tactic(auto)]
+
 ghost use Rattle.std.specs.Prelude.{◌≡◌};
 ghost use Rattle.report.specs.Reading.{read_rule};
 ghost use Rattle.report.specs.ReportContracts.{dj_of};
@@ -12,7 +14,7 @@ use report::{Device, DjReport, FeatureIndex, Reading};
 
 // blotterfinch_report. Refused: every other field is 0.
 #[repr(C)]
-#[derive(Drop)]
+#[derive(Clone, Copy)]
 pub struct Report {
     pub refusal: u8,
     pub id: u8,
@@ -25,7 +27,7 @@ pub struct Report {
 
 // blotterfinch_written. Refused: the length is 0.
 #[repr(C)]
-#[derive(Drop)]
+#[derive(Clone, Copy)]
 pub struct Written {
     pub refusal: u8,
     pub length: usize,
@@ -33,7 +35,7 @@ pub struct Written {
 
 // blotterfinch_movement. Refused: every other field is 0.
 #[repr(C)]
-#[derive(Drop)]
+#[derive(Clone, Copy)]
 pub struct Movement {
     pub buttons: u16,
     pub x: i16,

@@ -1,4 +1,6 @@
 // An example to copy: takes the whole reports on standard input, of at most 65536 bytes, on one station, says what each was, and prints the port listing.
+#![tactic(auto)]
+
 ghost use Rattle.std.specs.Prelude.{◌≡◌};
 ghost use Rattle.station.specs.StationTaking.{take_rule};
 

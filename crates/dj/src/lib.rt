@@ -1,4 +1,6 @@
 // Taking a DJ report at the port that it names.
+#![tactic(auto)]
+
 ghost use Rattle.std.specs.Prelude.{◌≡◌};
 ghost use Rattle.report.specs.Sizes.{bit};
 ghost use Rattle.report.specs.ReportContracts.{dj_of};

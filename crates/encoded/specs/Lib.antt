@@ -5,12 +5,3 @@ pub mod Rows
 pub mod EncodedRuns
 pub mod Demand3
 pub mod EncodedContracts
-pub mod DecodingLaws
-pub mod EncodingLaws
-pub mod RowsLaws
-pub mod WithinLaws
-pub mod ReadBackLaws
-pub mod CallsLaws
-pub mod CheckLaws
-pub mod PerformLaws
-pub mod Demand3Laws

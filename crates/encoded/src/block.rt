@@ -26,7 +26,7 @@ pub const STORE: u8 = 8;
 pub const RESTORE: u8 = 9;
 
 // What a header says: the opcode, three byte arguments, ticks, offset, and the lengths of the data and of the lent buffer.
-#[derive(Drop)]
+#[derive(Clone, Copy)]
 pub struct Header {
     pub op: u8,
     pub a: u8,

@@ -1,4 +1,6 @@
 // An encoded sequence of calls, and the function that makes them on a station.
+#![tactic(auto)]
+
 ghost use Rattle.std.specs.Prelude.{◌≡◌, [], length};
 ghost use Rattle.station.specs.Stations.{fresh_station};
 ghost use Rattle.sequence.specs.Steps.{writer_rule, restore};
@@ -18,7 +20,7 @@ use station::Station;
 // The encoded calls are malformed.
 pub const MALFORMED: u8 = 31;
 
-#[derive(Drop)]
+#[derive(Clone, Copy)]
 pub enum Ran {
     Refused(u8),
     // Every call was made; the number of bytes of answers at the front.
@@ -26,13 +28,13 @@ pub enum Ran {
 }
 
 // What a run gives: its answer, and the next station.
-#[derive(Drop)]
+#[derive(Clone, Copy)]
 pub struct RunResult {
     pub answer: Ran,
     pub station: Station,
 }
 
-#[derive(Drop)]
+#[derive(Clone, Copy)]
 enum Checked {
     Malformed,
     // The number of bytes of answers.
@@ -62,7 +64,7 @@ fn check(encoded: &[u8], room: usize) -> Checked
 }
 
 // What a call gives: the row of its answer, and the next station.
-#[derive(Drop)]
+#[derive(Clone, Copy)]
 struct Called {
     row: [u8; rows::ROW],
     station: Station,
@@ -197,7 +199,7 @@ pub fn run_encoded(
 
 // What C is given of a run: the refusal, or 0 and the number of bytes of answers.
 #[repr(C)]
-#[derive(Drop)]
+#[derive(Clone, Copy)]
 pub struct CRan {
     pub refusal: u8,
     pub length: usize,

@@ -1,4 +1,6 @@
 // Writing one frame at an offset of a lent buffer, without a station.
+#![tactic(auto)]
+
 ghost use Rattle.std.specs.Prelude.{◌≡◌, ◌+◌, ◌≤◌, length};
 ghost use Rattle.frame.specs.Forbidden.{is_sized, is_askable, has_wrong_size, lacks_software_id, names_no_feature, is_forbidden_frame};
 ghost use Rattle.frame.specs.FrameContracts.{head_size, framed, dj_head, written_outcome};
@@ -7,7 +9,7 @@ ghost use Rattle.frame.specs.Writing.{pasted, frame_at, fits_at, request_frame, 
 use report::{Device, FeatureIndex, Refusal};
 
 // What a writer answers.
-#[derive(Drop)]
+#[derive(Clone, Copy)]
 pub enum Written {
     Refused(Refusal),
     // The number of bytes written at the offset.
@@ -127,7 +129,7 @@ pub fn is_forbidden_frame(byte2: FeatureIndex, byte3: u8, params: &[u8]) -> bool
 }
 
 // Bytes 0 to 3 of a frame. Byte 2 is a feature index, a sub id or a DJ type.
-#[derive(Drop)]
+#[derive(Clone, Copy)]
 struct Head {
     id: u8,
     device: Device,

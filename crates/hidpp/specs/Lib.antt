@@ -1,3 +1,2 @@
 pub mod HidppRecords
 pub mod HidppTaking
-pub mod HidppTakingLaws

@@ -1,4 +1,6 @@
 // Taking a HID++ report at the port that it names.
+#![tactic(auto)]
+
 ghost use Rattle.std.specs.Prelude.{◌≡◌};
 ghost use Rattle.report.specs.ReportContracts.{hidpp_of};
 ghost use Rattle.port.specs.Records.{slot_of};

@@ -1,9 +1,2 @@
-pub mod DeviceLaws
 pub mod Lines
-pub mod ReadingLaws
-pub mod LinesLaws
-pub mod StoreSizesLaws
 pub mod Keeping
-pub mod KeepingLaws
-pub mod KeepingExamples
-pub mod KeptExamples

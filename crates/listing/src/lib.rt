@@ -1,4 +1,6 @@
 // The port listing: paired devices as lines of text, written at an offset of a lent buffer.
+#![tactic(auto)]
+
 ghost use Rattle.std.specs.Prelude.{◌≡◌, ◌*◌};
 ghost use Rattle.text.specs.Putting.{Puts};
 ghost use Rattle.report.specs.Ports.{device_count};

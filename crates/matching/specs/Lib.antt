@@ -1,5 +1,3 @@
 pub mod Messages
 pub mod Matching
 pub mod Answering
-pub mod MatchingLaws
-pub mod AnsweringLaws

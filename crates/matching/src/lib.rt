@@ -1,4 +1,6 @@
 // Which waiting request a HID++ report answers.
+#![tactic(auto)]
+
 ghost use Rattle.std.specs.Prelude.{◌≡◌};
 ghost use Rattle.report.specs.ReportContracts.{hidpp_of};
 ghost use Rattle.port.specs.Places.{first_at};
@@ -10,7 +12,7 @@ use port::{FirstParameters, Port, Request};
 use report::{Device, FeatureIndex, HidppReport};
 
 // What the rules look at in a HID++ report.
-#[derive(Drop)]
+#[derive(Clone, Copy)]
 pub struct Message {
     pub device: Device,
     pub byte2: FeatureIndex,

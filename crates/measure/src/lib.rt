@@ -1,4 +1,6 @@
 // Many calls on one station that is kept in a local, for the benchmark. bench/measure.h is the C side.
+#![tactic(auto)]
+
 ghost use Rattle.std.specs.Prelude.{◌≡◌, ◌≤◌};
 ghost use Rattle.measure.specs.Weights.{about_weight, take_weight, write_weight, cancel_weight, tick_weight, restore_weight};
 ghost use Rattle.measure.specs.MeasuredCalls.{measured, measured_by};

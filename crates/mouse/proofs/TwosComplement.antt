@@ -11,7 +11,7 @@ use mir.Syntax.{Width}
 use mir.Val.{SFits, hbits, to_z, of_z}
 use mir.ValLaws.{to_z_pos, to_z-of_z}
 use Rattle.mouse.specs.Movement.{signed}
-use Rattle.mouse.specs.MovementLaws.{lower_half, upper_half, magnitude}
+use Rattle.mouse.proofs.MovementLaws.{lower_half, upper_half, magnitude}
 
 -- the lower half, cast
 pub kept : (w : Width) (width n : ℕ) → n < 2 ^ (width - 1) → n < 2 ^ hbits w → to_z w n ≡ signed width n

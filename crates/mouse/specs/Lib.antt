@@ -1,3 +1,2 @@
 pub mod Movement
 pub mod MouseContracts
-pub mod MovementLaws

@@ -1,4 +1,6 @@
 // The movement in a mouse payload: the radio report of type 2. 01, "Taking a DJ report".
+#![tactic(auto)]
+
 ghost use Rattle.std.specs.Prelude.{◌≡◌, ◌+◌, ◌*◌, ◌/◌, ◌%◌, ◌<◌};
 ghost use Rattle.report.specs.Sizes.{joined2};
 ghost use Rattle.mouse.specs.Movement.{signed, mouse_rule};
@@ -9,7 +11,7 @@ use report::Refusal;
 const PAYLOAD_LENGTH: usize = 7;
 
 // One bit for each button; x and y from -2048 to 2047, wheel and pan from -128 to 127.
-#[derive(Drop)]
+#[derive(Clone, Copy)]
 pub struct Motion {
     pub buttons: u16,
     pub x: i16,
@@ -18,7 +20,7 @@ pub struct Motion {
     pub pan: i8,
 }
 
-#[derive(Drop)]
+#[derive(Clone, Copy)]
 pub enum Moved {
     Refused(Refusal),
     By(Motion),

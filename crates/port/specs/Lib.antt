@@ -5,9 +5,3 @@ pub mod Ticks
 pub mod Waiting
 pub mod Answers
 pub mod PortContracts
-pub mod SearchingLaws
-pub mod SearchingExamples
-pub mod MapLaws
-pub mod SumLaws
-pub mod TicksLaws
-pub mod WaitingLaws

@@ -6,7 +6,7 @@ use crate::Port;
 use report::{Device, FeatureIndex, Refusal};
 
 // What every answer to a HID++ report carries: the port, bytes 2 and 3, and where the parameters lie.
-#[derive(Drop)]
+#[derive(Clone, Copy)]
 pub struct About {
     pub port: Device,
     pub byte2: FeatureIndex,
@@ -21,7 +21,7 @@ pub const ERROR_1: u8 = 0x8f;
 pub const ERROR_2: u8 = 0xff;
 
 // The two kinds of error: of HID++ 1.0, and of HID++ 2.0.
-#[derive(Drop)]
+#[derive(Clone, Copy)]
 pub enum ErrorKind {
     Hidpp1,
     Hidpp2,
@@ -39,7 +39,7 @@ impl ErrorKind {
     }
 }
 
-#[derive(Drop)]
+#[derive(Clone, Copy)]
 pub enum Notice {
     Unpaired {
         port: Device,
@@ -63,7 +63,7 @@ pub enum Notice {
     },
 }
 
-#[derive(Drop)]
+#[derive(Clone, Copy)]
 pub enum Taken {
     Refused(Refusal),
     // The reply that ended a request; where a device's serial changed, the number of requests that it dropped there.
@@ -89,7 +89,7 @@ pub enum Taken {
 }
 
 // What taking a report gives at its port: the answer, and the port after it.
-#[derive(Drop)]
+#[derive(Clone, Copy)]
 pub struct PortTaken {
     pub answer: Taken,
     pub port: Port,

@@ -1,4 +1,6 @@
 // What one port holds, and its places for waiting requests.
+#![tactic(auto)]
+
 ghost use Rattle.std.specs.Prelude.{◌≡◌, ◌-◌, ◌≤◌, set};
 ghost use Rattle.port.specs.Records.{fresh_port, made_fresh, empty_place, request_in, feature_at, with_version, with_battery, with_serial, with_features, with_places, with_link, with_pairing};
 ghost use Rattle.port.specs.Places.{matches, first_at, is_empty, one_if_waiting, count_waiting};
@@ -23,11 +25,11 @@ pub const MAX_INDEX: u8 = 63;
 pub const PORTS: usize = report::DEVICES as usize + 1;
 
 // The first three parameters of a request or of a report.
-#[derive(Drop)]
+#[derive(Clone, Copy)]
 pub struct FirstParameters(pub u8, pub u8, pub u8);
 
 // One pending request. Document 01: a place. It is empty where no ticks are left.
-#[derive(Drop)]
+#[derive(Clone, Copy)]
 pub struct Request {
     pub byte2: FeatureIndex,
     pub byte3: u8,
@@ -35,14 +37,14 @@ pub struct Request {
     pub ticks: u8,
 }
 
-#[derive(Drop)]
+#[derive(Clone, Copy)]
 pub enum Version {
     Unknown,
     // Major, minor.
     Known(u8, u8),
 }
 
-#[derive(Drop)]
+#[derive(Clone, Copy)]
 pub enum Battery {
     Unknown,
     // Level, next, status.
@@ -50,14 +52,14 @@ pub enum Battery {
 }
 
 // The number that tells a device from others of its model.
-#[derive(Drop)]
+#[derive(Clone, Copy)]
 pub enum Serial {
     Unknown,
     Known(u32),
 }
 
 // The record of one device, or of the receiver.
-#[derive(Drop)]
+#[derive(Clone, Copy)]
 pub struct Port {
     pub paired: bool,
     pub wpid: u16,
@@ -195,7 +197,7 @@ fn one_if_waiting(request: Request) -> u8
 }
 
 // The places after one tick, and the number of requests that it ended.
-#[derive(Drop)]
+#[derive(Clone, Copy)]
 pub struct Ticked {
     pub places: [Request; PLACES],
     pub ended: u8,

@@ -7,20 +7,20 @@ use crate::{Port, Request};
 use report::{FeatureIndex, Refusal};
 
 // Where a request may wait.
-#[derive(Drop)]
+#[derive(Clone, Copy)]
 pub enum Admission {
     Refused(Refusal),
     At(usize),
 }
 
-#[derive(Drop)]
+#[derive(Clone, Copy)]
 pub enum Cancelled {
     Refused(Refusal),
     Done,
 }
 
 // What cancel gives at its port: the answer, and the port after it.
-#[derive(Drop)]
+#[derive(Clone, Copy)]
 pub struct PortCancelled {
     pub answer: Cancelled,
     pub port: Port,

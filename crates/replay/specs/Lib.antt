@@ -1,3 +1,1 @@
 pub mod ReplayTurns
-pub mod ReplayTurnLaws
-pub mod ReplayTurnExamples

@@ -1,4 +1,6 @@
 // replay [FILE [MARK]]: makes each call of a script on one station that starts fresh, and writes the answers. FILE is the script; it is on standard input where FILE is `-` or left out. A program cannot end with a status: where there is a second argument, a line on descriptor 3 says that the whole script was read, answered and written, and every failure leaves that line out.
+#![tactic(auto)]
+
 use libc::{STDIN_FILENO, STDOUT_FILENO};
 
 // Where the mark of a whole run goes.

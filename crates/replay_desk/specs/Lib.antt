@@ -1,3 +1,2 @@
 pub mod LineAnswers
 pub mod DeskContracts
-pub mod ShownLaws

@@ -1,4 +1,6 @@
 // One line of a replay script, answered: the call that it is, made on the station, and its answer as text.
+#![tactic(auto)]
+
 ghost use Rattle.std.specs.Prelude.{◌≡◌, true, ◌≤◌, length};
 ghost use Rattle.frame.specs.Writing.{fits_at};
 ghost use Rattle.replay_line.specs.LineFields.{most_lent};
@@ -23,14 +25,14 @@ pub const ANSWER: usize = (1 + text::DIGITS_8 as usize) * replay_line::MOST_LENT
 const LENT: u8 = 0xee;
 
 // What a line gives: the number of bytes of text that were put, and the next station.
-#[derive(Drop)]
+#[derive(Clone, Copy)]
 pub struct Answered {
     pub answer: Written,
     pub station: Station,
 }
 
 // The offset after the text, and the next station.
-#[derive(Drop)]
+#[derive(Clone, Copy)]
 struct Shown {
     next: usize,
     station: Station,

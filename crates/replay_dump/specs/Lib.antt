@@ -1,2 +1,1 @@
 pub mod DumpLines
-pub mod DumpExamples

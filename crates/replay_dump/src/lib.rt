@@ -1,4 +1,6 @@
 // The lines of a dump, what every port holds, put whole into a lent buffer, or not at all.
+#![tactic(auto)]
+
 ghost use Rattle.std.specs.Prelude.{◌≡◌, ◌*◌};
 ghost use Rattle.port.specs.Records.{feature_count, place_count};
 ghost use Rattle.text.specs.Putting.{filled, Puts, whole_rule};

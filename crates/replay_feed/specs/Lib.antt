@@ -2,11 +2,3 @@ pub mod LongLines
 pub mod Turns
 pub mod InputContracts
 pub mod TurnContracts
-pub mod ShortLaws
-pub mod CutLaws
-pub mod SqueezeLaws
-pub mod MoveLaws
-pub mod HeldLaws
-pub mod TurnRuleLaws
-pub mod FeedLaws
-pub mod TurnLaws

@@ -68,7 +68,7 @@ fn squeeze(buffer: &mut [u8], size: usize) -> usize
 }
 
 // What is held of a line, and whether the rest of it is to be passed over.
-#[derive(Drop)]
+#[derive(Clone, Copy)]
 pub struct Held {
     pub size: usize,
     pub cut: bool,

@@ -1,4 +1,6 @@
 // A script that is read in parts, and answered as it is read, in turns.
+#![tactic(auto)]
+
 ghost use Rattle.std.specs.Prelude.{◌≤◌, ◌≡◌, ◌&&◌, cond, eqb, length};
 ghost use Rattle.replay_feed.specs.TurnContracts.{Starts, is_ready, read_offset, turned_of, turn_for, Leaves};
 
@@ -8,7 +10,7 @@ mod feed;
 mod input;
 
 // The station and the number of lines so far. The bytes of the input buffer from `start` up to `size` are read and not yet answered; where they are cut, what follows up to the end of their line is passed over. Another turn is to follow where `going`: then more is to be read where `reading`, and else whole lines wait for room; the whole script is answered where `whole`. The first `filled` bytes of the output buffer are answers.
-#[derive(Drop)]
+#[derive(Clone, Copy)]
 pub struct State {
     pub station: Station,
     pub number: usize,

@@ -15,7 +15,7 @@ use mir.Val.{SFits, to_z, of_z}
 use mir.ValLaws.{to_z-of_z}
 use Rattle.replay_fields.specs.AnswerFields.{signed_text}
 use Rattle.text.specs.Putting.{Puts}
-use Rattle.text.specs.PuttingLaws.{same_text}
+use Rattle.text.proofs.PuttingLaws.{same_text}
 
 -- what is read back from a number's bits
 abbrev pub read : ℤ → ℤ

@@ -1,2 +1,1 @@
 pub mod AnswerFields
-pub mod PartsLaws

@@ -1,4 +1,6 @@
 // Fields of a line of text: a word, and the value after it, put into a lent buffer.
+#![tactic(auto)]
+
 ghost use Rattle.std.specs.Prelude.{◌++◌, ◌+◌, ◌≤◌, ◌≡◌, nat_abs, length};
 ghost use Rattle.text.specs.Words.{hex, decimal};
 ghost use Rattle.text.specs.Putting.{Puts};

@@ -4,9 +4,3 @@ pub mod LineFields
 pub mod Commands
 pub mod LineCalls
 pub mod LineContracts
-pub mod LineWordsLaws
-pub mod LineValuesLaws
-pub mod LineFieldsLaws
-pub mod LineCallsLaws
-pub mod LineBoundsLaws
-pub mod LineExamples

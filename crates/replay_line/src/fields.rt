@@ -12,20 +12,20 @@ use report::{Device, FeatureIndex};
 const GREATEST_PORT: u16 = 255;
 
 // What is read from an offset on, and the offset after it.
-#[derive(Drop)]
+#[derive(Clone, Copy)]
 pub enum NextByte {
     Byte { value: u8, next: usize },
     Nothing,
 }
 
-#[derive(Drop)]
+#[derive(Clone, Copy)]
 pub enum NextNumber {
     Number { value: u16, next: usize },
     Nothing,
 }
 
 // PORT B2 B3.
-#[derive(Drop)]
+#[derive(Clone, Copy)]
 pub enum NextPortAndBytes {
     PortAndBytes {
         port: Device,
@@ -37,14 +37,14 @@ pub enum NextPortAndBytes {
 }
 
 // PLACE LEN.
-#[derive(Drop)]
+#[derive(Clone, Copy)]
 pub enum NextLent {
     Lent { offset: u16, room: u16, next: usize },
     Nothing,
 }
 
 // The number of bytes read; whole where every word was one of them.
-#[derive(Drop)]
+#[derive(Clone, Copy)]
 pub struct ByteList {
     pub count: usize,
     pub whole: bool,

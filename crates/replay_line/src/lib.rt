@@ -1,4 +1,6 @@
 // One line of a replay script: the call that it is.
+#![tactic(auto)]
+
 ghost use Rattle.std.specs.Prelude.{◌≡◌, [], ◌≤◌, length, take, drop};
 ghost use Rattle.replay_line.specs.LineWords.{words};
 ghost use Rattle.replay_line.specs.LineFields.{most_lent};
@@ -21,7 +23,7 @@ pub const MOST_BYTES: usize = 256;
 pub const MOST_LENT: usize = 4096;
 
 // The calls that write into a lent buffer.
-#[derive(Drop)]
+#[derive(Clone, Copy)]
 pub enum Writer {
     Request {
         port: Device,
@@ -48,7 +50,7 @@ pub enum Writer {
 }
 
 // What a line asks for. A writer is lent a buffer of `room` bytes; a report, a payload, parameters or the text of a store are beside the command.
-#[derive(Drop)]
+#[derive(Clone, Copy)]
 pub enum Command {
     Blank,
     NoCall,
@@ -71,7 +73,7 @@ pub enum Command {
 }
 
 // A command, and how many bytes its report, payload, parameters or text has.
-#[derive(Drop)]
+#[derive(Clone, Copy)]
 pub struct Parsed {
     pub command: Command,
     pub count: usize,

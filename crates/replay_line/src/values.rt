@@ -8,13 +8,13 @@ const GREATEST: u32 = 65535;
 // No hexadecimal digit.
 const NO_DIGIT: u8 = 16;
 
-#[derive(Drop)]
+#[derive(Clone, Copy)]
 pub enum Hex {
     Byte(u8),
     Nothing,
 }
 
-#[derive(Drop)]
+#[derive(Clone, Copy)]
 pub enum Decimal {
     Number(u16),
     Nothing,

@@ -6,7 +6,7 @@ ghost use Rattle.replay_line.specs.LineContracts.{Skipped, Ended, NextWord};
 pub const SPACE: u8 = b' ';
 
 // A word: from its start up to its end. Where no word is left, both are the end of the line.
-#[derive(Drop)]
+#[derive(Clone, Copy)]
 pub struct Word {
     pub start: usize,
     pub end: usize,

@@ -1,4 +1,6 @@
 // The lines of text that replay's answers become, except those of a taken report and of a dump, each put whole into a lent buffer, or not at all.
+#![tactic(auto)]
+
 ghost use Rattle.std.specs.Prelude.{◌≡◌, ◌*◌, length};
 ghost use Rattle.mouse.specs.Movement.{moved};
 ghost use Rattle.mouse.specs.MouseContracts.{moved_of};

@@ -1,4 +1,6 @@
 // Whole lines of a script, answered one after the other into an output buffer.
+#![tactic(auto)]
+
 ghost use Rattle.std.specs.Prelude.{◌≡◌, ◌≤◌, true, length, drop};
 ghost use Rattle.frame.specs.Writing.{fits_at};
 ghost use Rattle.replay_desk.specs.LineAnswers.{answer_room};
@@ -12,7 +14,7 @@ use station::Station;
 pub const NEWLINE: u8 = 10;
 
 // The station, the number of lines answered, and how much of the output buffer their answers fill.
-#[derive(Drop)]
+#[derive(Clone, Copy)]
 struct Run {
     station: Station,
     number: usize,
@@ -42,7 +44,7 @@ fn answer(run: Run, line: &[u8], bytes: &mut [u8; replay_line::MOST_LENT], outpu
 }
 
 // How far a text was answered: the station and the number of lines so far, how much of the text was used and of the output buffer filled, and whether a whole line is left for want of room.
-#[derive(Drop)]
+#[derive(Clone, Copy)]
 pub struct Progress {
     pub station: Station,
     pub number: usize,

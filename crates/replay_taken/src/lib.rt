@@ -1,4 +1,6 @@
 // The line of what taking a report answered, put whole into a lent buffer, or not at all.
+#![tactic(auto)]
+
 ghost use Rattle.std.specs.Prelude.{[], ◌∷◌, ◌≡◌, ◌+◌, length};
 ghost use Rattle.text.specs.Putting.{filled, Puts, whole_rule};
 ghost use Rattle.port.specs.Answers.{reply, radio, failed, paired};

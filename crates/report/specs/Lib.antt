@@ -4,7 +4,3 @@ pub mod Sizes
 pub mod Radio
 pub mod Reading
 pub mod ReportContracts
-pub mod ChoicesLaws
-pub mod SizesLaws
-pub mod RadioLaws
-pub mod TableLaws

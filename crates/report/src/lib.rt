@@ -1,4 +1,6 @@
 // One report on its own: the two sorts of byte, the refusals, and reading without a station.
+#![tactic(auto)]
+
 ghost use Rattle.std.specs.Prelude.{◌≡◌, ◌≤◌, length};
 ghost use Rattle.report.specs.Ports.{in_range, is_device, is_port};
 ghost use Rattle.report.specs.Sizes.{length_of, is_hidpp, shortest_size, byte, joined2, joined4};
@@ -8,15 +10,15 @@ ghost use Rattle.report.specs.ReportContracts.{number_of, hidpp_of, dj_of, readi
 pub mod radio;
 
 // A device number: byte 1 of every report. 1 to 6 are the paired devices, 255 is the receiver.
-#[derive(Drop)]
+#[derive(Clone, Copy)]
 pub struct Device(pub u8);
 
 // A feature index, or a sub id of HID++ 1.0: byte 2 of a HID++ report.
-#[derive(Drop)]
+#[derive(Clone, Copy)]
 pub struct FeatureIndex(pub u8);
 
 // Why a call was refused. 01, "Refusal numbers", in the order of its table, and then what 02 adds.
-#[derive(Drop)]
+#[derive(Clone, Copy)]
 pub enum Refusal {
     EmptyReport,
     UnknownId,
@@ -99,7 +101,7 @@ pub const DEVICES: u8 = 6;
 pub const RECEIVER: u8 = 255;
 
 // A HID++ report: its bytes 0 to 3, and where its parameters lie.
-#[derive(Drop)]
+#[derive(Clone, Copy)]
 pub struct HidppReport {
     pub id: u8,
     pub device: Device,
@@ -110,7 +112,7 @@ pub struct HidppReport {
 }
 
 // A DJ report: its bytes 0 to 3, byte 2 being the type and byte 3 the first parameter.
-#[derive(Drop)]
+#[derive(Clone, Copy)]
 pub struct DjReport {
     pub id: u8,
     pub device: Device,
@@ -120,7 +122,7 @@ pub struct DjReport {
     pub length: u8,
 }
 
-#[derive(Drop)]
+#[derive(Clone, Copy)]
 pub enum Reading {
     Refused(Refusal),
     Hidpp(HidppReport),
@@ -178,6 +180,7 @@ pub fn is_port(device: Device) -> bool
 }
 
 // The length of a report with this id, or 0 where no report has it.
+#[tactic(auto, unfolding(crate::specs::Sizes::length_of))]
 pub fn length_of(id: u8) -> u8
     ensures length { result ≡ length_of id }
 {

@@ -1,4 +1,6 @@
 // A request at its port: its frame is written, and it waits.
+#![tactic(auto)]
+
 ghost use Rattle.std.specs.Prelude.{◌≡◌, ◌%◌};
 ghost use Rattle.request.specs.Requesting.{is_forbidden, waiting_request};
 ghost use Rattle.request.specs.RequestContracts.{checked_request, refused_with, requested_of};
@@ -11,7 +13,7 @@ use report::{Device, FeatureIndex, Refusal};
 const MAX_TICKS: u16 = 255;
 
 // What a request gives at its port: its answer, and the port after it.
-#[derive(Drop)]
+#[derive(Clone, Copy)]
 pub struct PortRequested {
     pub answer: Written,
     pub port: Port,

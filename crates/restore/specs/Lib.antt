@@ -1,4 +1,2 @@
 pub mod Restoring
 pub mod RestoreContracts
-pub mod RestoringLaws
-pub mod RestoredLaws

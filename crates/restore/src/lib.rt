@@ -1,4 +1,6 @@
 // Reading a store: the paired devices from text that a console kept.
+#![tactic(auto)]
+
 ghost use Rattle.std.specs.Prelude.{◌≡◌, ◌<◌, drop};
 ghost use Rattle.report.specs.Ports.{device_count};
 ghost use Rattle.port.specs.Records.{feature_count};
@@ -17,7 +19,7 @@ const DEVICES: usize = report::DEVICES as usize;
 const EDITION: u32 = 1;
 
 // The answer to a read: restored; refused with 15; or refused with 16, and the number of the first line that breaks the rules.
-#[derive(Drop)]
+#[derive(Clone, Copy)]
 pub enum Restored {
     Done,
     Refused(Refusal),
@@ -25,14 +27,14 @@ pub enum Restored {
 }
 
 // The answer, and the ports after the read.
-#[derive(Drop)]
+#[derive(Clone, Copy)]
 pub struct Restoring {
     pub answer: Restored,
     pub ports: [Port; port::PORTS],
 }
 
 // The indexes of the known features. Where they were not found, `next` is the end of the text.
-#[derive(Drop)]
+#[derive(Clone, Copy)]
 struct IndexesField {
     found: bool,
     features: [FeatureIndex; port::FEATURES],
@@ -40,7 +42,7 @@ struct IndexesField {
 }
 
 // What a line says of a device after its number.
-#[derive(Drop)]
+#[derive(Clone, Copy)]
 struct PadField {
     found: bool,
     port: Port,
@@ -48,7 +50,7 @@ struct PadField {
 }
 
 // A device in the text: its port, the offset after its line, and 1; or, where it is not there, a fresh port, the same offset and 0.
-#[derive(Drop)]
+#[derive(Clone, Copy)]
 struct Row {
     port: Port,
     next: usize,

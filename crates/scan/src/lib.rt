@@ -1,4 +1,6 @@
 // Numbers and what a port holds, read from the front of a part of a lent text. Each function is given the text and an offset, and looks at no byte before it.
+#![tactic(auto)]
+
 ghost use Rattle.std.specs.Prelude.{◌≡◌, true, ◌+◌, ◌*◌, ◌^◌, ◌≤◌, ◌<◌, length, drop};
 ghost use Rattle.text.specs.Texts.{digits16, digits32};
 ghost use Rattle.scan.specs.Scans.{word_scan, stopped, run_after, decimal_scan, capital_digit, hex_scan, serial_scan, version_scan};
@@ -19,21 +21,21 @@ const POINT: u8 = b'.';
 const BYTE_LAST: u8 = 255;
 
 // What was found: a number, and the offset after it and after the byte that ends it. Where nothing was found, the offset is the end of the text, and the number 0.
-#[derive(Drop)]
+#[derive(Clone, Copy)]
 pub struct Field {
     pub found: bool,
     pub value: u32,
     pub next: usize,
 }
 
-#[derive(Drop)]
+#[derive(Clone, Copy)]
 pub struct SerialField {
     pub found: bool,
     pub serial: Serial,
     pub next: usize,
 }
 
-#[derive(Drop)]
+#[derive(Clone, Copy)]
 pub struct VersionField {
     pub found: bool,
     pub version: Version,
@@ -41,7 +43,7 @@ pub struct VersionField {
 }
 
 // A number as far as it matters, and the offset after its digits.
-#[derive(Drop)]
+#[derive(Clone, Copy)]
 struct Digits {
     value: u16,
     next: usize,

@@ -1,1 +1,3 @@
 // Sequences of calls on the station.
+#![tactic(auto)]
+

@@ -1,4 +1,6 @@
 // A device's serial: the reply that gives it, and what it does at the device's port.
+#![tactic(auto)]
+
 ghost use Rattle.std.specs.Prelude.{◌≡◌};
 ghost use Rattle.report.specs.ReportContracts.{hidpp_of};
 ghost use Rattle.serial.specs.Serials.{is_serial_report, is_asked_with, serial_in, given_by, is_another, serial_rule};
@@ -16,14 +18,14 @@ const FIRST: u8 = 0x30;
 const LAST: u8 = FIRST + report::DEVICES - 1;
 
 // What a report gives: no serial, or that of a device.
-#[derive(Drop)]
+#[derive(Clone, Copy)]
 pub enum Given {
     Nothing,
     Serial { device: Device, number: u32 },
 }
 
 // What a serial does at its device's port: how many requests it drops there, and the port after it.
-#[derive(Drop)]
+#[derive(Clone, Copy)]
 pub struct Kept {
     pub dropped: u8,
     pub port: Port,

@@ -3,6 +3,3 @@ pub mod StationTaking
 pub mod StationCalls
 pub mod StationContracts
 pub mod StationPromises
-pub mod StationsLaws
-pub mod StationTakingLaws
-pub mod StationCallsLaws

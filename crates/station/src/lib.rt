@@ -1,4 +1,6 @@
 // The station: seven ports, and the calls on them.
+#![tactic(auto)]
+
 ghost use Rattle.std.specs.Prelude.{◌≡◌, ◌<◌};
 ghost use Rattle.port.specs.PortContracts.{taken_of};
 ghost use Rattle.station.specs.Stations.{fresh_station, position_of, port_count, number_at};
@@ -16,41 +18,41 @@ use restore::Restored;
 use serial::Given;
 
 // Devices 1 to 6 at positions 0 to 5, and the receiver at the last.
-#[derive(Drop)]
+#[derive(Clone, Copy)]
 pub struct Station {
     pub ports: [Port; port::PORTS],
 }
 
 // What a take gives: its answer, and the next station.
-#[derive(Drop)]
+#[derive(Clone, Copy)]
 pub struct TakeResult {
     pub answer: Taken,
     pub station: Station,
 }
 
 // What a request gives: its answer, and the next station.
-#[derive(Drop)]
+#[derive(Clone, Copy)]
 pub struct RequestResult {
     pub answer: Written,
     pub station: Station,
 }
 
 // What a cancel gives: its answer, and the next station.
-#[derive(Drop)]
+#[derive(Clone, Copy)]
 pub struct CancelResult {
     pub answer: Cancelled,
     pub station: Station,
 }
 
 // What a tick gives: the number of requests that it ended on each port, and the next station.
-#[derive(Drop)]
+#[derive(Clone, Copy)]
 pub struct TickResult {
     pub ended: [u8; port::PORTS],
     pub station: Station,
 }
 
 // What reading a store gives: its answer, and the next station.
-#[derive(Drop)]
+#[derive(Clone, Copy)]
 pub struct RestoreResult {
     pub answer: Restored,
     pub station: Station,

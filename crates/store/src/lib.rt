@@ -1,4 +1,6 @@
 // The store: the paired devices as text that a console keeps while it is off.
+#![tactic(auto)]
+
 ghost use Rattle.std.specs.Prelude.{◌≡◌, ◌∷◌, ◌*◌};
 ghost use Rattle.report.specs.Ports.{device_count};
 ghost use Rattle.port.specs.Records.{feature_count};

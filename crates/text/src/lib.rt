@@ -1,4 +1,6 @@
 // Words, numbers and what a port holds, as bytes of text put into a lent buffer from an offset on.
+#![tactic(auto)]
+
 ghost use Rattle.std.specs.Prelude.{◌≡◌, [], ◌∷◌, ◌<◌, length};
 ghost use Rattle.frame.specs.Writing.{frame_at};
 ghost use Rattle.frame.specs.FrameContracts.{written_outcome};

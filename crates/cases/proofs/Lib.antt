@@ -1,0 +1,4 @@
+pub mod LetteredCasesLaws
+pub mod SerialCasesLaws
+pub mod PingCasesLaws
+pub mod PaddingCasesLaws

@@ -1,0 +1,3 @@
+pub mod PaddingLaws
+pub mod DirtyLaws
+pub mod DjTakingLaws

@@ -1,0 +1,2 @@
+pub mod MatchingLaws
+pub mod AnsweringLaws

@@ -1,0 +1,6 @@
+pub mod SearchingLaws
+pub mod SearchingExamples
+pub mod MapLaws
+pub mod SumLaws
+pub mod TicksLaws
+pub mod WaitingLaws

@@ -1,0 +1,16 @@
+pub mod ListsLaws
+pub mod SoundLaws
+pub mod SoundExamples
+pub mod CallCasesLaws
+pub mod SoundCallsLaws
+pub mod RefusalTableLaws
+pub mod EndsLaws
+pub mod EndsExamples
+pub mod FieldsLaws
+pub mod FieldsExamples
+pub mod LowestPlacesLaws
+pub mod LowestPlacesExamples
+pub mod StartLaws
+pub mod StepLaws
+pub mod CompletionLaws
+pub mod CompleteLaws

@@ -1,0 +1,2 @@
+pub mod ReplayTurnLaws
+pub mod ReplayTurnExamples

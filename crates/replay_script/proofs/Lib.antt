@@ -1,0 +1,3 @@
+pub mod ShareLaws
+pub mod ReplayRunLaws
+pub mod ReplayExamples

@@ -1,0 +1,4 @@
+pub mod ChoicesLaws
+pub mod RadioLaws
+pub mod SizesLaws
+pub mod TableLaws

@@ -1,0 +1,2 @@
+pub mod ScansLaws
+pub mod ExactLaws

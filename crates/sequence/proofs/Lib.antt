@@ -1,0 +1,10 @@
+pub mod ReadingsLaws
+pub mod SentenceLaws
+pub mod StartsLaws
+pub mod LocalLaws
+pub mod NumbersLaws
+pub mod IndependenceLaws
+pub mod StaysLaws
+pub mod HistoriesLaws
+pub mod SequencesLaws
+pub mod HistoriesExamples

@@ -1,0 +1,2 @@
+pub mod SerialLaws
+pub mod GivingLaws

@@ -1,0 +1,3 @@
+pub mod StationsLaws
+pub mod StationTakingLaws
+pub mod StationCallsLaws

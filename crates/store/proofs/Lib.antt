@@ -1,0 +1,2 @@
+pub mod StoresLaws
+pub mod StoresExamples

@@ -1,0 +1,6 @@
+pub mod WordsLaws
+pub mod PuttingLaws
+pub mod EachLaws
+pub mod PutDigitsLaws
+pub mod TextExamples
+pub mod WritingTextLaws

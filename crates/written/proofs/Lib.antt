@@ -1,0 +1,3 @@
+pub mod BuildingLaws
+pub mod WrittenLaws
+pub mod WrittenExamples
