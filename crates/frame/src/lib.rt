@@ -110,6 +110,7 @@ fn is_askable(byte2: FeatureIndex) -> bool
 }
 
 // 01, Number 9, except for the ticks.
+#[tactic(auto, unfolding(crate::specs::Forbidden::is_forbidden_frame))]
 pub fn is_forbidden_frame(byte2: FeatureIndex, byte3: u8, params: &[u8]) -> bool
     ensures forbidden { result ≡ is_forbidden_frame byte2.0 byte3 params.now }
 {
@@ -207,6 +208,7 @@ pub fn write_request(
 }
 
 // Writes a request frame: refusals 5, 9 and 10.
+#[tactic(auto, unfolding(crate::specs::Writing::request_frame_rule))]
 pub fn request_frame(
     device: Device,
     byte2: FeatureIndex,
@@ -226,6 +228,7 @@ pub fn request_frame(
     write_request(device, byte2, byte3, params, buffer, offset)
 }
 
+#[tactic(auto, unfolding(crate::specs::FrameContracts::dj_head))]
 fn dj_head(device: Device, kind: u8, p0: u8) -> Head
     ensures { result ≡ dj_head device.0 kind p0 }
 {
@@ -238,6 +241,7 @@ fn dj_head(device: Device, kind: u8, p0: u8) -> Head
 }
 
 // Writes the switch command: refusals 14 and 10.
+#[tactic(auto, using(crate::proofs::WritingLaws::dj_frame), unfolding(crate::specs::Writing::switch_rule))]
 pub fn switch_frame(bits: u8, timeout: u8, buffer: &mut [u8], offset: usize) -> Written
     ensures outcome { written_outcome result buffer.new ≡ switch_rule bits timeout offset buffer.old }
 {
@@ -255,6 +259,7 @@ pub fn switch_frame(bits: u8, timeout: u8, buffer: &mut [u8], offset: usize) -> 
 }
 
 // Writes the command that asks for the paired devices: refusal 10.
+#[tactic(auto, using(crate::proofs::WritingLaws::dj_frame), unfolding(crate::specs::Writing::get_paired_rule))]
 pub fn get_paired_frame(buffer: &mut [u8], offset: usize) -> Written
     ensures outcome { written_outcome result buffer.new ≡ get_paired_rule offset buffer.old }
 {
@@ -268,6 +273,7 @@ pub fn get_paired_frame(buffer: &mut [u8], offset: usize) -> Written
 }
 
 // Writes the keyboard LEDs of a device: refusals 5 and 10.
+#[tactic(auto, using(crate::proofs::WritingLaws::dj_frame), unfolding(crate::specs::Writing::led_rule))]
 pub fn led_frame(device: Device, leds: u8, buffer: &mut [u8], offset: usize) -> Written
     ensures outcome { written_outcome result buffer.new ≡ led_rule device.0 leds offset buffer.old }
 {
