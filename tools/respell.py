@@ -97,6 +97,12 @@ def table():
 
 
 def words(text, to):
+    """Names in code: what stands in quotes is no name."""
+    parts = re.split(r'("(?:[^"\\]|\\.)*")', text)
+    return "".join(p if i % 2 else plain(p, to) for i, p in enumerate(parts))
+
+
+def plain(text, to):
     return WORD.sub(lambda m: to.get(m.group(0), m.group(0)), text)
 
 
@@ -149,6 +155,8 @@ def edit(text, to):
 
 
 def page(text, to):
+    # words of scripts and of their answers, which names of ours look like
+    to = {n: new for n, new in to.items() if n not in ("get-paired", "empty-list")}
     out = []
     code = False
     for line in text.split("\n"):
