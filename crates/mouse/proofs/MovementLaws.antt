@@ -48,6 +48,7 @@ range width n h =
 
 -- and every number of the range is that of some bits
 pub reached : (width : ℕ) (z : ℤ) → 0 < width → mag z < 2 ^ (width - 1) → (n : ℕ) × (n < 2 ^ width) × (signed width n ≡ z)
+reached zero z positive h = absurd (omega arith)
 reached (suc k) (pos n) _ h =
     let e : suc k - 1 ≡ k = omega arith in
     let l : n < 2 ^ k = rw e at h in

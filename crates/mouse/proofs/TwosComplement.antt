@@ -1,14 +1,8 @@
 -- The machine's signed arithmetic meets `signed`, for a field of any width in an integer `w` of any width.
-use Prim.Native.Nat.{ℕ, zero, suc, ◌-◌, ◌^◌, ◌≤◌, ◌<◌}
-use mathlib.Core.Bool.{Bool, true, false, cond}
-use mathlib.Core.Path.{◌≡◌, sym, ◌∙◌, ap}
-use native.Mathlib.Nat.{lt_of_lt_of_le}
-use native.Mathlib.Omega.{arith}
-use lib.Dec.{ltb}
-use lib.IntN.{ℤ, pos, negsuc, ◌-ℤ◌}
-use lib.Signed.{mag}
+use Rattle.std.proofs.Common.{ℕ, zero, suc, ◌-◌, ◌^◌, ◌≤◌, ◌<◌, Bool, true, false, cond, ltb, ◌≡◌, ℤ, pos, negsuc, ◌-ℤ◌, sym, ◌∙◌, ap, arith, lt_of_lt_of_le, SFits, to_z, of_z}
+use Rattle.std.specs.Int.Signed.{mag}
 use mir.Syntax.{Width}
-use mir.Val.{SFits, hbits, to_z, of_z}
+use mir.Val.{hbits}
 use mir.ValLaws.{to_z_pos, to_z-of_z}
 use Rattle.mouse.specs.Movement.{signed}
 use Rattle.mouse.proofs.MovementLaws.{lower_half, upper_half, magnitude}
