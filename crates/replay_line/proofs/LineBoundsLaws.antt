@@ -261,7 +261,7 @@ frame_bounded words =
 
 -- no name is longer
 abbrev name_most : ℕ
-name_most = length (ascii "get_paired_law")
+name_most = length (ascii "get-paired")
 
 same_length : (word name : List ℕ) → same_word word name ≡ true → length word ≡ length name
 unfolding same_word

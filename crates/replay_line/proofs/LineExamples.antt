@@ -38,7 +38,7 @@ examples =
     ∷ reads (ascii "cancel 2 00") no_call
     ∷ reads (ascii "cancel 2 00 11 00") no_call
     ∷ reads (ascii "cancel 2 00 11") (cancel 2 0x00 0x11)
-    ∷ reads (ascii "get_paired_law 0 0") (write get_paired 0 0 [])
+    ∷ reads (ascii "get-paired 0 0") (write get_paired 0 0 [])
     ∷ reads (ascii " # not a comment") no_call
     ∷ reads (ascii "Tick") no_call
     ∷ reads (ascii "tick" ++ (carriage_return ∷ [])) tick

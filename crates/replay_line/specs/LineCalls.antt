@@ -83,7 +83,7 @@ other_rows =
 unfoldable pub writer_rows : List LineRow
 writer_rows =
     line_row "switch" switch_call
-    ∷ line_row "get_paired_law" (lent_alone get_paired)
+    ∷ line_row "get-paired" (lent_alone get_paired)
     ∷ line_row "led" led_call
     ∷ line_row "list" (lent_alone list)
     ∷ line_row "store" (lent_alone store)

@@ -1,0 +1,25 @@
+-- `replay_line::other_call` meets its contract: each test is a row of the table.
+use Rattle.replay_line.specs.LineCalls.{other_rows}
+use mathlib.Core.Path.{sym, ◌∙◌}
+use Rattle.replay_line.proofs.LineCallsLaws.{same_command}
+use Rattle.replay_line.proofs.other_call.Goals as goal
+
+pub returns-then-is_word : goal.returns-then-is_word
+unfolding other_rows
+returns-then-is_word c = same_command c.with_bytes.ensures (simp (sym c.is_word.ensures.same ∙ c.if-is_word.true))
+
+pub returns-then-is_word-2 : goal.returns-then-is_word-2
+unfolding other_rows
+returns-then-is_word-2 c = same_command c.frame_call.ensures (simp (sym c.is_word.ensures.same ∙ c.if-is_word.false, sym c.is_word-2.ensures.same ∙ c.if-is_word-2.true))
+
+pub returns-then-is_word-3 : goal.returns-then-is_word-3
+unfolding other_rows
+returns-then-is_word-3 c = same_command c.with_bytes-then-is_word-3.ensures (simp (sym c.is_word.ensures.same ∙ c.if-is_word.false, sym c.is_word-2.ensures.same ∙ c.if-is_word-2.false, sym c.is_word-3.ensures.same ∙ c.if-is_word-3.true))
+
+pub returns-then-is_word-4 : goal.returns-then-is_word-4
+unfolding other_rows
+returns-then-is_word-4 c = same_command (c.with_no_more.ensures _) (simp (sym c.is_word.ensures.same ∙ c.if-is_word.false, sym c.is_word-2.ensures.same ∙ c.if-is_word-2.false, sym c.is_word-3.ensures.same ∙ c.if-is_word-3.false, sym c.is_word-4.ensures.same ∙ c.if-is_word-4.true))
+
+pub returns : goal.returns
+unfolding other_rows
+returns c = same_command (c.bare.ensures _) (simp (sym c.is_word.ensures.same ∙ c.if-is_word.false, sym c.is_word-2.ensures.same ∙ c.if-is_word-2.false, sym c.is_word-3.ensures.same ∙ c.if-is_word-3.false, sym c.is_word-4.ensures.same ∙ c.if-is_word-4.false))
