@@ -95,12 +95,20 @@ module _ (st : Station) where
 
   dj_why : {p : Port} {r : Report} {bytes : List ℕ} {x : Result} {number : ℕ} → DjCase p r bytes x → RefusedWith (taken x.answer) number → DjRefused p r bytes number
   dj_why (dj_refused h) take_with = h
+  dj_why (cases.radio_taken _ _ _ _) w = elim w [ ]
+  dj_why (cases.unpairs _) w = elim w [ ]
+  dj_why (cases.paired_same _ _) w = elim w [ ]
+  dj_why (cases.paired_new _ _) w = elim w [ ]
+  dj_why (cases.link_set _ _) w = elim w [ ]
+  dj_why (cases.other_notice _) w = elim w [ ]
 
   request_why : {p : Port} {device byte2 byte3 ticks : ℕ} {params : List ℕ} {offset : ℕ} {lent : List ℕ} {x : RequestAt} {number : ℕ} → RequestCase p device byte2 byte3 ticks params offset lent x → RefusedWith (written x.answer) number → RequestRefused p device byte2 byte3 ticks params offset lent number
   request_why (request_refused h) write_with = h
+  request_why (cases.accepted _ _ _) w = elim w [ ]
 
   cancel_why : {p : Port} {byte2 byte3 : ℕ} {x : waiting.CancelResult} {number : ℕ} → CancelCase p byte2 byte3 x → RefusedWith (cancelled x.answer) number → (13 ≡ number) × (¬ Waits p byte2 byte3)
   cancel_why (refused13 n) cancel_with = (refl, n)
+  cancel_why (cases.cancel_done _) w = elim w [ ]
 
   -- a writer of a frame: 10 where it does not fit
   data FrameWhy (size offset room : ℕ) : writing.WriteAnswer → Type 0 where
@@ -114,6 +122,7 @@ module _ (st : Station) where
 
   short_frame : {size offset room number : ℕ} {a : writing.WriteAnswer} → FrameWhy size offset room a → RefusedWith (written a) number → (10 ≡ number) × (writing.fits_at size offset room ≡ false)
   short_frame (short e) write_with = (refl, e)
+  short_frame (wrote _) w = elim w [ ]
 
   frame_short : (frame : List ℕ) (offset : ℕ) (lent : List ℕ) → writing.fits_at (length frame) offset (length lent) ≡ false → RefusedWith (written (writing.frame_at frame offset lent).answer) 10
   unfolding writing.frame_at
@@ -165,6 +174,9 @@ module _ (st : Station) where
   case_why (write_only {writer} {offset} {lent}) r = writer_why writer offset lent _ r
   case_why (restore_other text h) restore_with = restore15 text h
   case_why (restore_broken text line h) line_with = restore16 text line h
+  case_why (cases.list_empty _) w = elim w [ ]
+  case_why cases.tick_all_ports w = elim w [ ]
+  case_why (cases.restore_store _ _ _) w = elim w [ ]
 
   module _ (placed : AllPlaced st) where
     -- the case of a call gives its answer
