@@ -54,7 +54,7 @@ module _ (byte : ℕ) (text : List ℕ) (at : ℕ) where
 
 -- a rule that finds nothing
 nothing_found : {A : Type 0} (rule : List ℕ → Scan A) (text : List ℕ) (at : ℕ) {is_found : Bool} {value : A} {zero next : ℕ} → Nothing text is_found zero next → rule (drop at text) ≡ missing → Scans rule text at is_found value next
-nothing_found rule text at {is_found} {value} {zero} {next} n m =
+nothing_found rule text at {is_found} {value} {next} n m =
     record { so = ap (λ (b : Bool). scanned b value (drop next text)) n.none ∙ sym m; end = λ z. n.end }
 
 -- a rule that finds this
