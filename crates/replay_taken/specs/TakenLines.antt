@@ -26,7 +26,7 @@ notice_text (taking.paired port more wpid reports dropped) =
     ∷ field "reports" (hex digits32 reports)
     ∷ field "dropped" (decimal dropped)
     ∷ [])
-notice_text taking.empty_list = line (ascii "empty_list_example" ∷ [])
+notice_text taking.empty_list = line (ascii "empty-list" ∷ [])
 notice_text (taking.link port up) =
     line (ascii "link" ∷ field "port" (decimal port) ∷ ascii " " ∷ link_text up ∷ [])
 notice_text (taking.other port kind) =
