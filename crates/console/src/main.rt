@@ -5,68 +5,73 @@ ghost use Rattle.std.specs.Prelude.{◌≡◌};
 ghost use Rattle.station.specs.StationTaking.{take_rule};
 
 use frame::Written;
-use libc::STDOUT_FILENO;
 use port::answer::{Notice, Taken};
 use station::Station;
+use std::io;
+use std::io::{Print, Read};
 
-fn say(word: &[u8], number: u64) {
-    io::write_all(STDOUT_FILENO, word);
-    io::print_decimal(STDOUT_FILENO, number);
-    io::write_all(STDOUT_FILENO, b"\n");
+// As many bytes as are taken.
+const MOST: u64 = 65536;
+
+fn say(rt: &impl Print, word: &str, number: u64) {
+    let _ = println!(rt; "{word}{number}");
 }
 
-fn say_answer(answer: Taken) {
+fn say_answer(rt: &impl Print, answer: Taken) {
     match answer {
-        Taken::Refused(refusal) => say(b"refused with ", refusal.number() as u64),
-        Taken::Reply { about, .. } => say(b"reply of port ", about.port.0 as u64),
-        Taken::Stray(about) => say(b"stray of port ", about.port.0 as u64),
-        Taken::Plain(about) => say(b"notice of port ", about.port.0 as u64),
-        Taken::Event(about) => say(b"event of port ", about.port.0 as u64),
-        Taken::Failed { code, .. } => say(b"error ", code as u64),
-        Taken::Radio { kind, .. } => say(b"radio report of type ", kind as u64),
+        Taken::Refused(refusal) => say(rt, "refused with ", refusal.number() as u64),
+        Taken::Reply { about, .. } => say(rt, "reply of port ", about.port.0 as u64),
+        Taken::Stray(about) => say(rt, "stray of port ", about.port.0 as u64),
+        Taken::Plain(about) => say(rt, "notice of port ", about.port.0 as u64),
+        Taken::Event(about) => say(rt, "event of port ", about.port.0 as u64),
+        Taken::Failed { code, .. } => say(rt, "error ", code as u64),
+        Taken::Radio { kind, .. } => say(rt, "radio report of type ", kind as u64),
         Taken::Noticed(notice) => {
             if let Notice::Paired { port, .. } = notice {
-                say(b"paired: device ", port.0 as u64);
+                say(rt, "paired: device ", port.0 as u64);
             } else {
-                io::write_all(STDOUT_FILENO, b"another notification\n");
+                let _ = println!(rt; "another notification");
             }
         }
     }
 }
 
 // A call gives the next station, which has to be kept: this contract is not met by the station before the call.
-fn take_report(station: Station, bytes: &[u8]) -> Station
+fn take_report(rt: &impl Print, station: Station, bytes: &[u8]) -> Station
     ensures next { result ≡ (take_rule station bytes.now).station }
 {
     let taken = station.take(bytes);
     let answer = taken.answer;
-    say_answer(answer);
+    say_answer(rt, answer);
     taken.station
 }
 
-fn take_all(mut station: Station, bytes: &[u8]) -> Station {
+fn take_all(rt: &impl Print, mut station: Station, bytes: &[u8]) -> Station {
     let mut at = 0;
     while at < bytes.len() {
         let left = bytes.len() - at;
         let length = report::length_of(bytes[at]) as usize;
         if length == 0 || length > left {
-            say(b"bytes that are no report: ", left as u64);
+            say(rt, "bytes that are no report: ", left as u64);
             return station;
         }
-        station = take_report(station, &bytes[at..at + length]);
+        station = take_report(rt, station, &bytes[at..at + length]);
         at += length;
     }
     station
 }
 
-fn main() {
-    let mut bytes = io::large_buffer();
-    let count = io::read_full(libc::STDIN_FILENO, &mut bytes);
-    let station = take_all(Station::new(), &bytes[..count]);
-    let mut text = io::buffer();
+// A read that fails ends the reports; after the listing, the program fails with what it said.
+fn main(rt: HostRuntime) -> io::Result<()> {
+    let mut bytes = Vec::new(rt.alloc());
+    let read = rt.stdin().take(MOST).read_to_end(&mut bytes);
+    let station = take_all(&rt, Station::new(), bytes.as_slice());
+    let mut text = [0; 4096];
     if let Written::Bytes(length) = station.list(&mut text, 0) {
         if length <= text.len() {
-            io::write_all(STDOUT_FILENO, &text[..length]);
+            let _ = rt.write_all(&text[..length]);
         }
     }
+    read?;
+    Ok(())
 }
