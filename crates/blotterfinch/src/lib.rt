@@ -1,4 +1,4 @@
-// The functions exported to C, over byte slices and numbers. The C side is include/blotterfinch.h.
+// What C is given, over byte slices and numbers. The crate `blotterfinch_c` exports these functions; the C side is include/blotterfinch.h.
 #![tactic(auto)]
 
 ghost use Rattle.std.specs.Prelude.{◌≡◌};
@@ -60,8 +60,7 @@ fn dj_report(d: DjReport) -> Report
 }
 
 // Reads one report: refusals 1 to 6.
-#[unsafe(no_mangle)]
-pub extern "C" fn blotterfinch_read(bytes: &[u8]) -> Report
+pub fn blotterfinch_read(bytes: &[u8]) -> Report
     ensures report { result ≡ c_report (read_rule bytes.now) }
 {
     match report::read(bytes) {
@@ -104,8 +103,7 @@ fn to_c(written: frame::Written) -> Written
 }
 
 // Writes a HID++ request: refusals 5, 9 and 10.
-#[unsafe(no_mangle)]
-pub extern "C" fn blotterfinch_request_frame(
+pub fn blotterfinch_request_frame(
     device: u8,
     byte2: u8,
     byte3: u8,
@@ -126,42 +124,28 @@ pub extern "C" fn blotterfinch_request_frame(
 }
 
 // Writes the DJ switch command: refusals 14 and 10.
-#[unsafe(no_mangle)]
-pub extern "C" fn blotterfinch_switch_frame(
-    bits: u8,
-    timeout: u8,
-    buffer: &mut [u8],
-    offset: usize,
-) -> Written
+pub fn blotterfinch_switch_frame(bits: u8, timeout: u8, buffer: &mut [u8], offset: usize) -> Written
     ensures outcome { c_ended result buffer.new ≡ c_outcome (switch_rule bits timeout offset buffer.old) }
 {
     to_c(frame::switch_frame(bits, timeout, buffer, offset))
 }
 
 // Writes the DJ command that asks for the paired devices: refusal 10.
-#[unsafe(no_mangle)]
-pub extern "C" fn blotterfinch_get_paired_frame(buffer: &mut [u8], offset: usize) -> Written
+pub fn blotterfinch_get_paired_frame(buffer: &mut [u8], offset: usize) -> Written
     ensures outcome { c_ended result buffer.new ≡ c_outcome (get_paired_rule offset buffer.old) }
 {
     to_c(frame::get_paired_frame(buffer, offset))
 }
 
 // Writes the keyboard LEDs of a device: refusals 5 and 10.
-#[unsafe(no_mangle)]
-pub extern "C" fn blotterfinch_led_frame(
-    device: u8,
-    leds: u8,
-    buffer: &mut [u8],
-    offset: usize,
-) -> Written
+pub fn blotterfinch_led_frame(device: u8, leds: u8, buffer: &mut [u8], offset: usize) -> Written
     ensures outcome { c_ended result buffer.new ≡ c_outcome (led_rule device leds offset buffer.old) }
 {
     to_c(frame::led_frame(Device(device), leds, buffer, offset))
 }
 
 // Reads a mouse payload: refusal 3.
-#[unsafe(no_mangle)]
-pub extern "C" fn blotterfinch_mouse(payload: &[u8]) -> Movement
+pub fn blotterfinch_mouse(payload: &[u8]) -> Movement
     ensures movement { result ≡ c_movement (mouse_rule payload.now) }
 {
     match mouse::movement(payload) {
