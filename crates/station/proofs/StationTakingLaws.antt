@@ -18,7 +18,7 @@ use Rattle.port.specs.declared.answer.PortTaken.{PortTaken}
 use Rattle.port.specs.declared.answer.Taken.{Taken}
 use Rattle.port.specs.declared.answer.Taken.TheVariants.{Radio}
 use Rattle.port.specs.Records.{with_link}
-use Rattle.port.specs.Answers.{Answer, Result}
+use Rattle.port.specs.Answers.{Result}
 use Rattle.port.specs.PortContracts.{taken_of, result_of}
 use Rattle.matching.specs.Messages.{message_of}
 use Rattle.hidpp.specs.HidppTaking.{take_hidpp}
