@@ -27,19 +27,19 @@ use Rattle.station.proofs.Station.list.Reads as list_reads
 use Rattle.station.proofs.Station.store.Reads as store_reads
 use Rattle.station.proofs.Station.restore.Reads as restore_reads
 use Rattle.sequence.specs.Steps.{switch, get_paired, led, list, store, take, request, cancel, tick, write, restore, take_step, request_step, cancel_step, tick_step, write_step, restore_step}
-use Rattle.sequence.specs.Histories.{LentBytes, Ensured, by_take, by_request, by_cancel, by_tick, by_switch, by_get_paired, by_led, by_list, by_store, by_restore, Made, History}
+use Rattle.sequence.specs.Histories.{LentBytes, LentBuffer, Ensured, by_take, by_request, by_cancel, by_tick, by_switch, by_get_paired, by_led, by_list, by_store, by_restore, Made, History}
 
 -- each of the ten calls, with any arguments, result and lent bytes of which its contract holds
 record EachCall : Type 0 where
   of_take : (κ : List ℕ) (st : Station) (bytes : LentBytes) (r : TakeResult) → take_reads.Learnt (κ, tt) (st, (bytes, tt)) r (st, (bytes, tt)) → Ensured st (take bytes.now) (take_step bytes.now (take_outcome r))
-  of_request : (κ κ' : List ℕ) (st : Station) (device : Device) (byte2 : FeatureIndex) (byte3 ticks : ℕ) (params buffer after : LentBytes) (offset : ℕ) (r : RequestResult) → request_reads.Learnt (κ, (κ', tt)) (st, (device, (byte2, (byte3, (ticks, (params, (buffer, (offset, tt)))))))) r (st, (device, (byte2, (byte3, (ticks, (params, (after, (offset, tt)))))))) → Ensured st (request device.0 byte2.0 byte3 ticks params.now offset buffer.now) (request_step params.now (request_outcome r after.now))
+  of_request : (κ κ' : List ℕ) (st : Station) (device : Device) (byte2 : FeatureIndex) (byte3 ticks : ℕ) (params : LentBytes) (buffer after : LentBuffer) (offset : ℕ) (r : RequestResult) → request_reads.Learnt (κ, (κ', tt)) (st, (device, (byte2, (byte3, (ticks, (params, (buffer, (offset, tt)))))))) r (st, (device, (byte2, (byte3, (ticks, (params, (after, (offset, tt)))))))) → Ensured st (request device.0 byte2.0 byte3 ticks params.now offset buffer.now) (request_step params.now (request_outcome r after.now))
   of_cancel : (st : Station) (device : Device) (byte2 : FeatureIndex) (byte3 : ℕ) (r : CancelResult) → cancel_reads.Learnt tt (st, (device, (byte2, (byte3, tt)))) r (st, (device, (byte2, (byte3, tt)))) → Ensured st (cancel device.0 byte2.0 byte3) (cancel_step (cancel_outcome r))
   of_tick : (st : Station) (r : TickResult) → tick_reads.Learnt tt (st, tt) r (st, tt) → Ensured st tick (tick_step (tick_outcome r))
-  of_switch : (κ : List ℕ) (st : Station) (bits timeout : ℕ) (buffer after : LentBytes) (offset : ℕ) (r : Written) → switch_reads.Learnt (κ, tt) (st, (bits, (timeout, (buffer, (offset, tt))))) r (st, (bits, (timeout, (after, (offset, tt))))) → Ensured st (write (switch bits timeout) offset buffer.now) (write_step st (written_outcome r after.now))
-  of_get_paired : (κ : List ℕ) (st : Station) (buffer after : LentBytes) (offset : ℕ) (r : Written) → get_paired_reads.Learnt (κ, tt) (st, (buffer, (offset, tt))) r (st, (after, (offset, tt))) → Ensured st (write get_paired offset buffer.now) (write_step st (written_outcome r after.now))
-  of_led : (κ : List ℕ) (st : Station) (device : Device) (leds : ℕ) (buffer after : LentBytes) (offset : ℕ) (r : Written) → led_reads.Learnt (κ, tt) (st, (device, (leds, (buffer, (offset, tt))))) r (st, (device, (leds, (after, (offset, tt))))) → Ensured st (write (led device.0 leds) offset buffer.now) (write_step st (written_outcome r after.now))
-  of_list : (κ : List ℕ) (st : Station) (buffer after : LentBytes) (offset : ℕ) (r : Written) → list_reads.Learnt (κ, tt) (st, (buffer, (offset, tt))) r (st, (after, (offset, tt))) → Ensured st (write list offset buffer.now) (write_step st (written_outcome r after.now))
-  of_store : (κ : List ℕ) (st : Station) (buffer after : LentBytes) (offset : ℕ) (r : Written) → store_reads.Learnt (κ, tt) (st, (buffer, (offset, tt))) r (st, (after, (offset, tt))) → Ensured st (write store offset buffer.now) (write_step st (written_outcome r after.now))
+  of_switch : (κ : List ℕ) (st : Station) (bits timeout : ℕ) (buffer after : LentBuffer) (offset : ℕ) (r : Written) → switch_reads.Learnt (κ, tt) (st, (bits, (timeout, (buffer, (offset, tt))))) r (st, (bits, (timeout, (after, (offset, tt))))) → Ensured st (write (switch bits timeout) offset buffer.now) (write_step st (written_outcome r after.now))
+  of_get_paired : (κ : List ℕ) (st : Station) (buffer after : LentBuffer) (offset : ℕ) (r : Written) → get_paired_reads.Learnt (κ, tt) (st, (buffer, (offset, tt))) r (st, (after, (offset, tt))) → Ensured st (write get_paired offset buffer.now) (write_step st (written_outcome r after.now))
+  of_led : (κ : List ℕ) (st : Station) (device : Device) (leds : ℕ) (buffer after : LentBuffer) (offset : ℕ) (r : Written) → led_reads.Learnt (κ, tt) (st, (device, (leds, (buffer, (offset, tt))))) r (st, (device, (leds, (after, (offset, tt))))) → Ensured st (write (led device.0 leds) offset buffer.now) (write_step st (written_outcome r after.now))
+  of_list : (κ : List ℕ) (st : Station) (buffer after : LentBuffer) (offset : ℕ) (r : Written) → list_reads.Learnt (κ, tt) (st, (buffer, (offset, tt))) r (st, (after, (offset, tt))) → Ensured st (write list offset buffer.now) (write_step st (written_outcome r after.now))
+  of_store : (κ : List ℕ) (st : Station) (buffer after : LentBuffer) (offset : ℕ) (r : Written) → store_reads.Learnt (κ, tt) (st, (buffer, (offset, tt))) r (st, (after, (offset, tt))) → Ensured st (write store offset buffer.now) (write_step st (written_outcome r after.now))
   of_restore : (κ : List ℕ) (st : Station) (text : LentBytes) (r : RestoreResult) → restore_reads.Learnt (κ, tt) (st, (text, tt)) r (st, (text, tt)) → Ensured st (restore text.now) (restore_step text.now (restore_outcome r))
 
 each_call : EachCall

@@ -1,3 +1,2 @@
 // Sequences of calls on the station.
 #![tactic(auto)]
-

@@ -1,3 +1,2 @@
 // Numbers of a port, as wide as their fields. There is no code here.
 #![tactic(auto)]
-

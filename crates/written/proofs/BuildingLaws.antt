@@ -39,7 +39,7 @@ use Rattle.station.proofs.StationsLaws.{device_number, device_position, position
 use Rattle.station.specs.StationTaking.{stored_at, also_at, take_by, take_rule}
 use Rattle.station.specs.StationCalls.{requested_at, request_rule}
 use Rattle.sequence.proofs.NumbersLaws.{device_port}
-use Rattle.sequence.specs.Steps.{Call, take, request, step, run}
+use Rattle.sequence.specs.Steps.{Call, take, step, run}
 use Rattle.written.specs.Building.{paired_report, short_buffer, asks, replies, version_calls, index_calls, indexes_calls, serial_answer, serial_calls}
 
 -- one call after others
