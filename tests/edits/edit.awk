@@ -1,6 +1,7 @@
 # Reads a must-fail edit, beside the crate in the folder `crate`.
 # -v what=owners: for each pair of `old:` and `new:` a line with the function of src/ that it changes, by its path,
 #     `constant` for a line outside functions, `nothing` for a text that is not there, or the file, if it is not of src/.
+# -v what=lines: for each line of the files of src/ that it changes, FILE:LINE and its function.
 # -v what=apply: writes the changed files. With -v only=FUNCTION it leaves out the pairs that change another function,
 #     or another function's proof.
 function load(name,   line, n, type, current, indent, module) {
@@ -58,10 +59,14 @@ function is_left_out(of) {
     at = index(text[file], old)
     of = at ? owner_at(file, at) : "nothing"
     if (what == "owners") print of
-    else if (!at && only == "") { print FILENAME ": not there: " old > "/dev/stderr"; failed = 1 }
+    else if (what == "apply" && !at && only == "") { print FILENAME ": not there: " old > "/dev/stderr"; failed = 1 }
     if (at && !is_left_out(of)) text[file] = substr(text[file], 1, at - 1) new substr(text[file], at + length(old))
 }
 END {
     if (failed) exit 1
+    if (what == "lines") for (at in owner) {
+        split(at, place, SUBSEP)
+        print place[1] ":" place[2], owner[at]
+    }
     if (what == "apply") for (name in text) printf "%s", text[name] > (crate "/" name)
 }
