@@ -205,13 +205,8 @@ pub struct CRan {
     pub length: usize,
 }
 
-// Makes encoded calls on a fresh station. tests/encoded/encoded.h is the C side.
-#[unsafe(no_mangle)]
-pub extern "C" fn blotterfinch_run_encoded(
-    encoded: &[u8],
-    arena: &mut [u8],
-    answers: &mut [u8],
-) -> CRan
+// Makes encoded calls on a fresh station. The crate `encoded_c` exports it.
+pub fn blotterfinch_run_encoded(encoded: &[u8], arena: &mut [u8], answers: &mut [u8]) -> CRan
     ensures by_rule { c_left result arena.new answers.new ≡ c_run_outcome (encoded_rule fresh_station encoded.now arena.old answers.old) }
 {
     let run = run_encoded(Station::new(), encoded, arena, answers);
