@@ -4,7 +4,7 @@ use Rattle.std.proofs.Math.Path.{◌≡◌, refl, sym, ap}
 use Rattle.std.proofs.Common.{◌∙◌, subst, true≢false, arith}
 use Rattle.std.proofs.Math.Bool.{true, false, cond}
 use Rattle.std.proofs.Math.Dec.{eqb, lit<, lit≤}
-use Rattle.std.specs.Borrow.{Bor}
+use Rattle.std.specs.Borrow.{Bor, MutBor}
 use Rattle.report.specs.declared.FeatureIndex.{FeatureIndex}
 use Rattle.report.specs.Ports.{is_device, is_port}
 use Rattle.report.specs.Sizes.{byte, hidpp_start, length_of}
@@ -166,16 +166,16 @@ module _ (d : Demands) where
   c_reads : (κ : List ℕ) (bytes : Bor (List ℕ)) (r : Report) → read_reads.Learnt (κ, tt) (bytes, tt) r (bytes, tt) → r ≡ c_report (read_rule bytes.now)
   c_reads = d.without_station.read
 
-  c_requests : (κ κ' : List ℕ) (device byte2 byte3 : ℕ) (params buffer after : Bor (List ℕ)) (offset : ℕ) (r : c.Written) → request_reads.Learnt (κ, (κ', tt)) (device, (byte2, (byte3, (params, (buffer, (offset, tt)))))) r (device, (byte2, (byte3, (params, (after, (offset, tt)))))) → c_ended r after.now ≡ c_outcome (request_frame_rule device byte2 byte3 params.now offset buffer.now)
+  c_requests : (κ κ' : List ℕ) (device byte2 byte3 : ℕ) (params : Bor (List ℕ)) (buffer after : MutBor (List ℕ)) (offset : ℕ) (r : c.Written) → request_reads.Learnt (κ, (κ', tt)) (device, (byte2, (byte3, (params, (buffer, (offset, tt)))))) r (device, (byte2, (byte3, (params, (after, (offset, tt)))))) → c_ended r after.now ≡ c_outcome (request_frame_rule device byte2 byte3 params.now offset buffer.now)
   c_requests = d.without_station.request
 
-  c_switches : (κ : List ℕ) (bits timeout : ℕ) (buffer after : Bor (List ℕ)) (offset : ℕ) (r : c.Written) → switch_reads.Learnt (κ, tt) (bits, (timeout, (buffer, (offset, tt)))) r (bits, (timeout, (after, (offset, tt)))) → c_ended r after.now ≡ c_outcome (switch_rule bits timeout offset buffer.now)
+  c_switches : (κ : List ℕ) (bits timeout : ℕ) (buffer after : MutBor (List ℕ)) (offset : ℕ) (r : c.Written) → switch_reads.Learnt (κ, tt) (bits, (timeout, (buffer, (offset, tt)))) r (bits, (timeout, (after, (offset, tt)))) → c_ended r after.now ≡ c_outcome (switch_rule bits timeout offset buffer.now)
   c_switches = d.without_station.switch
 
-  c_asks_for_pairs : (κ : List ℕ) (buffer after : Bor (List ℕ)) (offset : ℕ) (r : c.Written) → get_paired_reads.Learnt (κ, tt) (buffer, (offset, tt)) r (after, (offset, tt)) → c_ended r after.now ≡ c_outcome (get_paired_rule offset buffer.now)
+  c_asks_for_pairs : (κ : List ℕ) (buffer after : MutBor (List ℕ)) (offset : ℕ) (r : c.Written) → get_paired_reads.Learnt (κ, tt) (buffer, (offset, tt)) r (after, (offset, tt)) → c_ended r after.now ≡ c_outcome (get_paired_rule offset buffer.now)
   c_asks_for_pairs = d.without_station.get_paired
 
-  c_lights : (κ : List ℕ) (device leds : ℕ) (buffer after : Bor (List ℕ)) (offset : ℕ) (r : c.Written) → led_reads.Learnt (κ, tt) (device, (leds, (buffer, (offset, tt)))) r (device, (leds, (after, (offset, tt)))) → c_ended r after.now ≡ c_outcome (led_rule device leds offset buffer.now)
+  c_lights : (κ : List ℕ) (device leds : ℕ) (buffer after : MutBor (List ℕ)) (offset : ℕ) (r : c.Written) → led_reads.Learnt (κ, tt) (device, (leds, (buffer, (offset, tt)))) r (device, (leds, (after, (offset, tt)))) → c_ended r after.now ≡ c_outcome (led_rule device leds offset buffer.now)
   c_lights = d.without_station.led
 
   c_moves : (κ : List ℕ) (payload : Bor (List ℕ)) (r : Movement) → mouse_reads.Learnt (κ, tt) (payload, tt) r (payload, tt) → r ≡ c_movement (mouse_rule payload.now)
@@ -505,7 +505,7 @@ module _ (d : Demands) where
   last_made st ms m k = (d.cut st ms (m ∷ []) k).1.0
 
   -- encoded calls end with the station of the rules' run, and their rows are its answers
-  module _ (κ κ' κ'' : List ℕ) (st : Station) (encoded arena arena_after answers answers_after : Bor (List ℕ)) (r : RunResult) (e : run_reads.Learnt (κ, (κ', (κ'', tt))) (st, (encoded, (arena, (answers, tt)))) r (st, (encoded, (arena_after, (answers_after, tt))))) (cs : List Call) (decoded : decode encoded.now arena.now ≡ calls cs) (room : rows_size cs ≤ length answers.now) where
+  module _ (κ κ' κ'' : List ℕ) (st : Station) (encoded : Bor (List ℕ)) (arena arena_after answers answers_after : MutBor (List ℕ)) (r : RunResult) (e : run_reads.Learnt (κ, (κ', (κ'', tt))) (st, (encoded, (arena, (answers, tt)))) r (st, (encoded, (arena_after, (answers_after, tt))))) (cs : List Call) (decoded : decode encoded.now arena.now ≡ calls cs) (room : rows_size cs ≤ length answers.now) where
     run_ends : r.station ≡ run st cs
     unfolding ran
     run_ends = ap (λ (o : EncodedOutcome). o.station) (d.runs κ κ' κ'' st encoded arena arena_after answers answers_after r e cs decoded room)
