@@ -1,3 +1,4 @@
+pub mod FindingLaws
 pub mod ShareLaws
 pub mod ReplayRunLaws
 pub mod ReplayExamples

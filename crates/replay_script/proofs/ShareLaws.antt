@@ -5,7 +5,7 @@ use Rattle.std.proofs.Math.Path.{ap}
 use Rattle.std.proofs.Math.ListN.{length-drop}
 use Rattle.std.proofs.Math.Seq.{take-length}
 use borrow.Author.Tests.{le-leb, lt-leb}
-use Rattle.bytes.specs.Bytes.{index_of, index_after, slice}
+use Rattle.replay_script.specs.Finding.{index_of, index_after, slice}
 use Rattle.frame.specs.Writing as writing
 use Rattle.frame.specs.FrameContracts.{written_of}
 use Rattle.frame.specs.declared.Written.{Written}

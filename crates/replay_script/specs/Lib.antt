@@ -1,3 +1,4 @@
 pub mod ReplayRuns
 pub mod Shares
+pub mod Finding
 pub mod ScriptContracts

@@ -7,9 +7,10 @@ ghost use Rattle.replay_desk.specs.LineAnswers.{answer_room};
 ghost use Rattle.replay_script.specs.Shares.{share_rule};
 ghost use Rattle.replay_script.specs.ScriptContracts.{share_of, Adds};
 
-use bytes::scan;
 use frame::Written;
 use station::Station;
+
+pub mod finding;
 
 pub const NEWLINE: u8 = 10;
 
@@ -67,7 +68,7 @@ pub fn answer_lines(station: Station, number: usize, text: &[u8], output: &mut [
     };
     let mut bytes = [0u8; replay_line::MOST_LENT];
     let mut at = 0;
-    let mut end = scan::find(text, at, text.len(), NEWLINE);
+    let mut end = finding::find(text, at, text.len(), NEWLINE);
     while end < text.len() {
         if output.len() - run.filled < replay_desk::ANSWER {
             let last = run.station;
@@ -81,7 +82,7 @@ pub fn answer_lines(station: Station, number: usize, text: &[u8], output: &mut [
         }
         run = answer(run, &text[at..end], &mut bytes, output);
         at = end + 1;
-        end = scan::find(text, at, text.len(), NEWLINE);
+        end = finding::find(text, at, text.len(), NEWLINE);
     }
     let last = run.station;
     Progress {
