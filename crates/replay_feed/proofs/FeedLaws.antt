@@ -7,7 +7,7 @@ use mathlib.Core.List.{List, [], ◌∷◌, ◌++◌}
 use Rattle.std.proofs.Math.ListN.{length}
 use Rattle.std.proofs.lemmas.List.{drop-append-le}
 use borrow.Author.Tests.{eq-eqb, ne_eqb}
-use Rattle.bytes.specs.Bytes.{index_of, index_after, slice}
+use Rattle.replay_script.specs.Finding.{index_of, index_after, slice}
 use Rattle.station.specs.declared.Station.{Station}
 use Rattle.replay_script.specs.declared.Progress.{Progress}
 use Rattle.replay_script.specs.ScriptContracts.{share_of}

@@ -6,8 +6,7 @@ ghost use Rattle.replay_feed.specs.Turns.{answered, feed_rule, end_rule};
 ghost use Rattle.replay_feed.specs.TurnContracts.{input_of, pending_of, turned_of, Standing};
 
 use crate::{State, input};
-use bytes::scan;
-use replay_script::NEWLINE;
+use replay_script::{NEWLINE, finding};
 use station::Station;
 
 // Answers the whole lines of the input buffer between two offsets while there is room, and holds the rest.
@@ -73,7 +72,7 @@ pub(crate) fn feed(state: State, buffer: &mut [u8], count: usize, output: &mut [
     if !state.cut {
         return proceed(station, state.number, buffer, start, size, output);
     }
-    let newline = scan::find(buffer, held, size, NEWLINE);
+    let newline = finding::find(buffer, held, size, NEWLINE);
     if newline == size {
         return State {
             station,
