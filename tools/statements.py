@@ -4,8 +4,8 @@
 usage: python3 tools/statements.py OLD NEW [CRATE ..]     what is gone, changed or new in NEW
        python3 tools/statements.py --list FOLDER          every public law and example, by crate and module, as docs/PORT-THEOREMS.md has them
 
-A statement is a signature of specs/*.antt or proofs/*.antt; of a module of definitions, one that is not called ..Laws
-or ..Examples, what it is defined as belongs to it. A module counts as the same in specs/ and in proofs/. Spaces, line
+A statement is a signature of specs/*.antt or proofs/*.antt; of an abbrev or unfoldable, and of a module of definitions,
+one that is not called ..Laws or ..Examples, what it is defined as belongs to it. A module counts as the same in specs/ and in proofs/. Spaces, line
 breaks, comments and imports are not compared.
 """
 
@@ -23,18 +23,20 @@ def entries(path, laws):
     """(name, text) of each declaration, in order; what a module without a name takes stands before its members."""
     with open(path, encoding="utf-8") as f:
         lines = [re.sub(r"(^|\s)--(\s.*|$)", "", line).rstrip() for line in f.read().split("\n")]
-    found, inside = [], False
+    found, inside = [], []  # inside: the depth of each module that is open
     for line in lines:
         depth = len(line) - len(line.lstrip())
         if not line.strip() or (depth == 0 and line.startswith("use ")):
             continue
-        if depth == 0:
-            inside = line.startswith("module ")
+        while inside and depth <= inside[-1]:
+            inside.pop()
+        at = inside[-1] + 2 if inside else 0
         m = re.match(r"\s*(?:(?:abbrev|unfoldable|pub|data|record)\s+)*([^\s:(){}.;,λ=]+) :(\s|$)", line)
         m = m or re.match(r"\s*(?:pub )?(?:data|record) (\S+)", line)
-        if depth == 0 and inside:
-            found.append([line, [line]])
-        elif m and (depth == 0 or (inside and depth == 2)):
+        if depth == at and line.strip().startswith("module "):
+            found.append([line.strip(), [line.strip()]])
+            inside.append(depth)
+        elif m and depth == at:
             found.append([m.group(1), [line.strip()]])
         elif found:
             found[-1][1].append(line.strip())
@@ -44,7 +46,8 @@ def entries(path, laws):
             end = 1
             while end < len(text) and not re.match(re.escape(name) + r"(\s|$)", text[end]) and not text[end].startswith("unfolding"):
                 end += 1
-            text = text[:end] + ([] if laws else ["||"] + text[end:])
+            plain = laws and not re.match(r"(pub )?(abbrev|unfoldable)\b", text[0])
+            text = text[:end] + ([] if plain else ["||"] + text[end:])
         out.append((name, re.sub(r"\(\s+", "(", re.sub(r"\s+", " ", " ".join(text)))))
     return out
 
@@ -67,7 +70,7 @@ def load(top, crates=()):
 def show(top):
     last = None
     for (crate, module, name, *_), text in load(top).items():
-        if not is_laws(module) or not (text.startswith("pub ") or text.startswith("module ")):
+        if not is_laws(module) or not re.match(r"(abbrev |unfoldable )?pub |module ", text):
             continue
         if (crate, module) != last:
             print(f"\n## {crate} {module}\n")
