@@ -2,7 +2,7 @@
 """Lays the statements and definitions of two checkouts beside one another.
 
 usage: python3 tools/statements.py OLD NEW [CRATE ..]     what is gone, changed or new in NEW
-       python3 tools/statements.py --list FOLDER          every public law and example, by crate and module, as docs/PORT-THEOREMS.md has them
+       python3 tools/statements.py --list FOLDER          every law and example, by crate and module, as docs/PORT-THEOREMS.md has them
 
 A statement is a signature of specs/*.antt or proofs/*.antt; of an abbrev or unfoldable, and of a module of definitions,
 one that is not called ..Laws or ..Examples, what it is defined as belongs to it. A module counts as the same in specs/ and in proofs/. Spaces, line
@@ -70,7 +70,7 @@ def load(top, crates=()):
 def show(top):
     last = None
     for (crate, module, name, *_), text in load(top).items():
-        if not is_laws(module) or not re.match(r"(abbrev |unfoldable )?pub |module ", text):
+        if not is_laws(module):
             continue
         if (crate, module) != last:
             print(f"\n## {crate} {module}\n")
