@@ -1,4 +1,4 @@
-# Reads a must-fail edit, beside the crate in the folder `crate`.
+# Reads a must-fail edit, beside the crate in the folder `crate`; after libexec/type_of.awk.
 # -v what=owners: for each pair of `old:` and `new:` a line with the function of src/ that it changes, by its path,
 #     `constant` for a line outside functions, `nothing` for a text that is not there, or the file, if it is not of src/.
 # -v what=lines: for each line of the files of src/ that it changes, FILE:LINE and its function.
@@ -16,11 +16,7 @@ function load(name,   line, n, type, current, indent, module) {
     while ((getline line < (crate "/" name)) > 0) {
         text[name] = text[name] line "\n"
         if (line ~ /^impl[ <]/) {
-            type = line
-            sub(/^impl(<[^>]*>)? /, "", type)
-            sub(/^.* for /, "", type)
-            sub(/[^A-Za-z0-9_].*/, "", type)
-            type = type "::"
+            type = type_of(line) "::"
         }
         if (match(line, /^ *(pub(\([a-z]*\))? )?(extern "C" )?fn [a-z_0-9]+/)) {
             current = substr(line, RSTART, RLENGTH); indent = match(line, /[^ ]/)

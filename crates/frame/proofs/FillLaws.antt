@@ -1,5 +1,5 @@
 -- Laws of filling the front of a part with one frame, over any length of the rest.
-use Rattle.std.specs.Prelude.{ℕ, suc, ◌+◌, ◌≤◌, ◌<◌, ◌≡◌, refl, List, [], ◌∷◌, ◌++◌, length, get_or, set, drop}
+use Rattle.std.specs.Prelude.{ℕ, suc, ◌+◌, ◌-◌, ◌≤◌, ◌<◌, ◌≡◌, refl, List, [], ◌∷◌, ◌++◌, length, get_or, set, take, drop}
 use Rattle.std.proofs.Common.{sym, ◌∙◌, ap, arith, add-one, length-set, drop-drop}
 use Rattle.frame.specs.Writing.{pasted}
 use Rattle.std.proofs.Math.Seq.{paste, paste-zero, paste-suc, take-length}
@@ -12,27 +12,6 @@ headed part a b c d = set (set (set (set part 0 a) 1 b) 2 c) 3 d
 pub length_headed : (part : List ℕ) (a b c d : ℕ) → length (headed part a b c d) ≡ length part
 length_headed part a b c d = simp length-set
 
--- the loop's state: of the rest, the first i bytes follow the head
-pub record Filling (part₀ rest part : List ℕ) (i : ℕ) : Type 0 where
-  pub within : i ≤ length rest
-  pub room : 4 + length rest ≤ length part₀
-  pub so : part ≡ paste part₀ 4 rest i
-
-pub begun : (part rest : List ℕ) → 4 + length rest ≤ length part → Filling part rest part 0
-begun part rest h = record { within = omega arith; room = h; so = paste-zero part 4 rest }
-
-pub filling_length : {part₀ rest part : List ℕ} {i : ℕ} → Filling part₀ rest part i → length part ≡ length part₀
-filling_length {part₀} {rest} {part} {i} f =
-    ap length f.so ∙ length-paste part₀ 4 rest i (omega (arith, f.within, f.room)) f.within
-
-pub more : {part₀ rest part : List ℕ} {i : ℕ} → Filling part₀ rest part i → i < length rest → Filling part₀ rest (set part (4 + i) (get_or rest i 0)) (i + 1)
-more {part₀} {rest} {part} {i} f h =
-    record {
-      within = omega arith;
-      room = f.room;
-      so = ap (λ (l : List ℕ). set l (4 + i) (get_or rest i 0)) f.so ∙ paste-suc part₀ 4 rest i 0 (omega (arith, f.room)) h ∙ ap (paste part₀ 4 rest) (sym (add-one i));
-    }
-
 -- the head's four stores on a part that has room for them
 behind : (part : List ℕ) (a b c d : ℕ) → 4 ≤ length part → headed part a b c d ≡ a ∷ b ∷ c ∷ d ∷ drop 4 part
 behind [] a b c d h = absurd (omega arith)
@@ -41,19 +20,11 @@ behind (x ∷ y ∷ []) a b c d h = absurd (omega arith)
 behind (x ∷ y ∷ z ∷ []) a b c d h = absurd (omega arith)
 behind (x ∷ y ∷ z ∷ w ∷ part) a b c d h = refl
 
--- a whole copy behind four bytes
-copied : (rest behind : List ℕ) (a b c d : ℕ) → paste (a ∷ b ∷ c ∷ d ∷ behind) 4 rest (length rest) ≡ a ∷ b ∷ c ∷ d ∷ (rest ++ drop (length rest) behind)
-copied rest behind a b c d =
-    let e : 4 + length rest ≡ suc (suc (suc (suc (length rest)))) = omega arith in
-    simp (e, take-length)
-
-pub finished : (xs rest part : List ℕ) (a b c d i : ℕ) → Filling (headed xs a b c d) rest part i → length rest ≤ i → part ≡ pasted (a ∷ b ∷ c ∷ d ∷ rest) 0 xs
-finished xs rest part a b c d i f out =
-    let n : i ≡ length rest = omega (arith, f.within) in
-    let long : 4 ≤ length xs = omega (arith, f.room, length_headed xs a b c d) in
+-- four stores and a copy behind them are the frame at the front
+pub copied : (part rest copy : List ℕ) (a b c d : ℕ) → 4 + length rest ≤ length part → copy ≡ rest → take 4 (headed part a b c d) ++ (copy ++ drop (4 + length rest - 4) (drop 4 (headed part a b c d))) ≡ pasted (a ∷ b ∷ c ∷ d ∷ rest) 0 part
+copied part rest copy a b c d room same =
+    let long : 4 ≤ length part = omega (arith, room) in
+    let size : 4 + length rest - 4 ≡ length rest = omega arith in
     let e : 0 + suc (suc (suc (suc (length rest)))) ≡ 4 + length rest = omega arith in
-    f.so
-    ∙ ap (paste (headed xs a b c d) 4 rest) n
-    ∙ ap (λ (l : List ℕ). paste l 4 rest (length rest)) (behind xs a b c d long)
-    ∙ copied rest (drop 4 xs) a b c d
-    ∙ ap (λ (l : List ℕ). a ∷ b ∷ c ∷ d ∷ (rest ++ l)) (drop-drop (length rest) 4 xs ∙ ap (λ (k : ℕ). drop k xs) (sym e))
+    rw (behind part a b c d long) rw same rw size
+    (ap (λ (l : List ℕ). a ∷ b ∷ c ∷ d ∷ (rest ++ l)) (drop-drop (length rest) 4 part ∙ ap (λ (k : ℕ). drop k part) (sym e)))

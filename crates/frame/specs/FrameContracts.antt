@@ -1,11 +1,10 @@
 -- Helpers of contracts: the program's frames and answers, in the terms of the rules.
-use Rattle.std.specs.Prelude.{ℕ, List, ◌∷◌}
+use Rattle.std.specs.Prelude.{ℕ, List, ◌∷◌, Result, Ok, Err}
 use Rattle.report.specs.Sizes.{dj_short}
+use Rattle.report.specs.declared.Refusal.{Refusal}
 use Rattle.report.specs.ReportContracts.{number_of}
 use Rattle.frame.specs.Writing.{WriteAnswer, refused, wrote, WriteOutcome}
 use Rattle.frame.specs.declared.Head.{Head}
-use Rattle.frame.specs.declared.Written.{Written}
-use Rattle.frame.specs.declared.Written.TheVariants.{Refused, Bytes}
 
 -- bytes 0 to 3 of a frame
 abbrev pub head_size : ℕ
@@ -17,10 +16,10 @@ framed head rest = head.id ∷ head.device.0 ∷ head.byte2 ∷ head.byte3 ∷ r
 unfoldable pub dj_head : ℕ → ℕ → ℕ → Head
 dj_head device kind p0 = record { id = dj_short; device = record { 0 = device }; byte2 = kind; byte3 = p0 }
 
-abbrev pub written_of : Written → WriteAnswer
-written_of (Refused r) = refused (number_of r)
-written_of (Bytes n) = wrote n
+abbrev pub written_of : Result ℕ Refusal → WriteAnswer
+written_of (Err r) = refused (number_of r)
+written_of (Ok n) = wrote n
 
 -- how a writer ended: its answer, and the buffer that it left
-abbrev pub written_outcome : Written → List ℕ → WriteOutcome
+abbrev pub written_outcome : Result ℕ Refusal → List ℕ → WriteOutcome
 written_outcome written lent = record { answer = written_of written; lent = lent }

@@ -8,14 +8,6 @@ ghost use Rattle.frame.specs.Writing.{pasted, frame_at, fits_at, request_frame, 
 
 use report::{Device, FeatureIndex, Refusal};
 
-// What a writer answers.
-#[derive(Clone, Copy)]
-pub enum Written {
-    Refused(Refusal),
-    // The number of bytes written at the offset.
-    Bytes(usize),
-}
-
 // Parameters of a short request, and of a long one.
 pub const SHORT_PARAMS: usize = 3;
 
@@ -43,22 +35,16 @@ const DJ_REST: usize = 11;
 pub fn fits(size: usize, offset: usize, room: usize) -> bool
     ensures fitting { result ≡ fits_at size offset room }
 {
-    if room < offset {
-        return false;
-    }
-    size <= room - offset
+    offset <= room && size <= room - offset
 }
 
 // A register request at a size that its sub id does not have.
 fn has_wrong_size(byte2: FeatureIndex, size: usize) -> bool
     ensures { result ≡ has_wrong_size byte2.0 size }
 {
-    let sub_id = byte2.0;
-    match sub_id {
+    match byte2.0 {
         SET_LONG_REGISTER => size == SHORT_PARAMS,
-        SET_REGISTER => size == LONG_PARAMS,
-        GET_REGISTER => size == LONG_PARAMS,
-        GET_LONG_REGISTER => size == LONG_PARAMS,
+        SET_REGISTER | GET_REGISTER | GET_LONG_REGISTER => size == LONG_PARAMS,
         _ => false,
     }
 }
@@ -67,46 +53,31 @@ fn has_wrong_size(byte2: FeatureIndex, size: usize) -> bool
 fn names_no_feature(byte2: FeatureIndex, byte3: u8, params: &[u8]) -> bool
     ensures { result ≡ names_no_feature byte2.0 byte3 params.now }
 {
-    if byte2.0 != 0 {
-        return false;
-    }
-    if byte3 / 16 != 0 {
-        return false;
-    }
-    if report::byte_at(params, 0) != 0 {
-        return false;
-    }
-    report::byte_at(params, 1) == 0
+    byte2.0 == 0
+        && byte3 / 16 == 0
+        && report::byte_at(params, 0) == 0
+        && report::byte_at(params, 1) == 0
 }
 
 // Whether a request has this number of parameters.
 fn is_sized(size: usize) -> bool
     ensures { result ≡ is_sized size }
 {
-    if size == SHORT_PARAMS {
-        return true;
-    }
-    size == LONG_PARAMS
+    size == SHORT_PARAMS || size == LONG_PARAMS
 }
 
 // A HID++ 2.0 request without a software id: its reply would pass for an event.
 fn lacks_software_id(byte2: FeatureIndex, byte3: u8) -> bool
     ensures { result ≡ lacks_software_id byte2.0 byte3 }
 {
-    if byte2.0 < report::SUB_IDS {
-        return byte3 % 16 == 0;
-    }
-    false
+    byte2.0 < report::SUB_IDS && byte3 % 16 == 0
 }
 
 // Whether byte 2 is a feature index or a sub id of a register request.
 fn is_askable(byte2: FeatureIndex) -> bool
     ensures { result ≡ is_askable byte2.0 }
 {
-    if byte2.0 < report::SUB_IDS {
-        return true;
-    }
-    report::within(SET_REGISTER, byte2.0, GET_LONG_REGISTER)
+    byte2.0 < report::SUB_IDS || report::within(SET_REGISTER, byte2.0, GET_LONG_REGISTER)
 }
 
 // 01, Number 9, except for the ticks.
@@ -114,19 +85,11 @@ fn is_askable(byte2: FeatureIndex) -> bool
 pub fn is_forbidden_frame(byte2: FeatureIndex, byte3: u8, params: &[u8]) -> bool
     ensures forbidden { result ≡ is_forbidden_frame byte2.0 byte3 params.now }
 {
-    if !is_sized(params.len()) {
-        return true;
-    }
-    if !is_askable(byte2) {
-        return true;
-    }
-    if has_wrong_size(byte2, params.len()) {
-        return true;
-    }
-    if lacks_software_id(byte2, byte3) {
-        return true;
-    }
-    names_no_feature(byte2, byte3, params)
+    !is_sized(params.len())
+        || !is_askable(byte2)
+        || has_wrong_size(byte2, params.len())
+        || lacks_software_id(byte2, byte3)
+        || names_no_feature(byte2, byte3, params)
 }
 
 // Bytes 0 to 3 of a frame. Byte 2 is a feature index, a sub id or a DJ type.
@@ -147,23 +110,19 @@ fn fill(part: &mut [u8], head: Head, rest: &[u8])
     part[1] = head.device.0;
     part[2] = head.byte2;
     part[3] = head.byte3;
-    let mut i = 0;
-    while i < rest.len() {
-        part[HEAD + i] = rest[i];
-        i += 1;
-    }
+    part[HEAD..HEAD + rest.len()].copy_from_slice(rest);
 }
 
 // Writes the frame at its offset, or answers 10.
-fn write_at(head: Head, rest: &[u8], buffer: &mut [u8], offset: usize) -> Written
+fn write_at(head: Head, rest: &[u8], buffer: &mut [u8], offset: usize) -> Result<usize, Refusal>
     ensures { written_outcome result buffer.new ≡ frame_at (framed head rest.now) offset buffer.old }
 {
     let size = HEAD + rest.len();
-    if fits(size, offset, buffer.len()) {
-        fill(&mut buffer[offset..], head, rest);
-        return Written::Bytes(size);
+    if !fits(size, offset, buffer.len()) {
+        return Err(Refusal::NoRoom);
     }
-    Written::Refused(Refusal::NoRoom)
+    fill(&mut buffer[offset..], head, rest);
+    Ok(size)
 }
 
 // The id of a request with this number of parameters.
@@ -171,19 +130,17 @@ fn request_id(size: usize) -> u8
     ensures { result ≡ request_id size }
 {
     if size == SHORT_PARAMS {
-        return report::HIDPP_SHORT;
+        report::HIDPP_SHORT
+    } else {
+        report::HIDPP_LONG
     }
-    report::HIDPP_LONG
 }
 
 // Bits 6 and 7 of the switch command's device bits name no device.
 fn has_reserved_bits(bits: u8) -> bool
     ensures { result ≡ has_reserved_bits bits }
 {
-    if bits / 64 % 2 == 1 {
-        return true;
-    }
-    bits / 128 % 2 == 1
+    bits / 64 % 2 == 1 || bits / 128 % 2 == 1
 }
 
 // Writes a request frame that is not asked about: refusal 10.
@@ -194,12 +151,11 @@ pub fn write_request(
     params: &[u8],
     buffer: &mut [u8],
     offset: usize,
-) -> Written
+) -> Result<usize, Refusal>
     ensures outcome { written_outcome result buffer.new ≡ frame_at (request_frame device.0 byte2.0 byte3 params.now) offset buffer.old }
 {
-    let id = request_id(params.len());
     let head = Head {
-        id,
+        id: request_id(params.len()),
         device,
         byte2: byte2.0,
         byte3,
@@ -216,14 +172,14 @@ pub fn request_frame(
     params: &[u8],
     buffer: &mut [u8],
     offset: usize,
-) -> Written
+) -> Result<usize, Refusal>
     ensures outcome { written_outcome result buffer.new ≡ request_frame_rule device.0 byte2.0 byte3 params.now offset buffer.old }
 {
     if !report::is_port(device) {
-        return Written::Refused(Refusal::NoSuchPort);
+        return Err(Refusal::NoSuchPort);
     }
     if is_forbidden_frame(byte2, byte3, params) {
-        return Written::Refused(Refusal::Forbidden);
+        return Err(Refusal::Forbidden);
     }
     write_request(device, byte2, byte3, params, buffer, offset)
 }
@@ -242,11 +198,11 @@ fn dj_head(device: Device, kind: u8, p0: u8) -> Head
 
 // Writes the switch command: refusals 14 and 10.
 #[tactic(auto, using(crate::proofs::WritingLaws::dj_frame), unfolding(crate::specs::Writing::switch_rule))]
-pub fn switch_frame(bits: u8, timeout: u8, buffer: &mut [u8], offset: usize) -> Written
+pub fn switch_frame(bits: u8, timeout: u8, buffer: &mut [u8], offset: usize) -> Result<usize, Refusal>
     ensures outcome { written_outcome result buffer.new ≡ switch_rule bits timeout offset buffer.old }
 {
     if has_reserved_bits(bits) {
-        return Written::Refused(Refusal::ReservedBits);
+        return Err(Refusal::ReservedBits);
     }
     let mut rest = [0; DJ_REST];
     rest[0] = timeout;
@@ -260,7 +216,7 @@ pub fn switch_frame(bits: u8, timeout: u8, buffer: &mut [u8], offset: usize) -> 
 
 // Writes the command that asks for the paired devices: refusal 10.
 #[tactic(auto, using(crate::proofs::WritingLaws::dj_frame), unfolding(crate::specs::Writing::get_paired_rule))]
-pub fn get_paired_frame(buffer: &mut [u8], offset: usize) -> Written
+pub fn get_paired_frame(buffer: &mut [u8], offset: usize) -> Result<usize, Refusal>
     ensures outcome { written_outcome result buffer.new ≡ get_paired_rule offset buffer.old }
 {
     let rest = [0; DJ_REST];
@@ -274,11 +230,11 @@ pub fn get_paired_frame(buffer: &mut [u8], offset: usize) -> Written
 
 // Writes the keyboard LEDs of a device: refusals 5 and 10.
 #[tactic(auto, using(crate::proofs::WritingLaws::dj_frame), unfolding(crate::specs::Writing::led_rule))]
-pub fn led_frame(device: Device, leds: u8, buffer: &mut [u8], offset: usize) -> Written
+pub fn led_frame(device: Device, leds: u8, buffer: &mut [u8], offset: usize) -> Result<usize, Refusal>
     ensures outcome { written_outcome result buffer.new ≡ led_rule device.0 leds offset buffer.old }
 {
     if !report::is_device(device) {
-        return Written::Refused(Refusal::NoSuchPort);
+        return Err(Refusal::NoSuchPort);
     }
     let rest = [0; DJ_REST];
     write_at(

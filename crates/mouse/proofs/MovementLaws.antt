@@ -22,7 +22,7 @@ halves : (width : ℕ) → 2 ^ width ≤ 2 ^ (width - 1) + 2 ^ (width - 1)
 halves zero = lit≤ tt
 halves (suc k) = let e : suc k - 1 ≡ k = omega arith in rw e (omega arith)
 
-below : (a b : ℕ) → a < b → pos a -ℤ pos b ≡ negsuc (b - suc a)
+pub below : (a b : ℕ) → a < b → pos a -ℤ pos b ≡ negsuc (b - suc a)
 below a zero h = absurd (omega arith)
 below a (suc b) h = simp (lt-ltb a (suc b) h)
 

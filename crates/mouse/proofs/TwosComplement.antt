@@ -1,11 +1,11 @@
 -- The machine's signed arithmetic meets `signed`, for a field of any width in an integer `w` of any width.
-use Rattle.std.proofs.Common.{ℕ, zero, suc, ◌-◌, ◌^◌, ◌≤◌, ◌<◌, Bool, true, false, cond, ltb, ◌≡◌, ℤ, pos, negsuc, ◌-ℤ◌, sym, ◌∙◌, ap, arith, lt_of_lt_of_le, SFits, to_z, of_z}
+use Rattle.std.proofs.Common.{ℕ, zero, suc, ◌-◌, ◌^◌, ◌≤◌, ◌<◌, Bool, true, false, cond, ltb, ◌≡◌, ℤ, pos, negsuc, ◌-ℤ◌, sym, ◌∙◌, ap, arith, lt_of_lt_of_le, ltb-true, ltb-false, refl, w8, SFits, to_z, of_z}
 use Rattle.std.specs.Int.Signed.{mag}
 use mir.Syntax.{Width}
 use mir.Val.{hbits}
 use mir.ValLaws.{to_z_pos, to_z-of_z}
 use Rattle.mouse.specs.Movement.{signed}
-use Rattle.mouse.proofs.MovementLaws.{lower_half, upper_half, magnitude}
+use Rattle.mouse.proofs.MovementLaws.{lower_half, upper_half, magnitude, below}
 
 -- the lower half, cast
 pub kept : (w : Width) (width n : ℕ) → n < 2 ^ (width - 1) → n < 2 ^ hbits w → to_z w n ≡ signed width n
@@ -34,3 +34,13 @@ held w width n small room = record { sfits = lt_of_lt_of_le (magnitude width n s
 -- a number that a call gave, read back from its bits
 pub back : (w : Width) (z : ℤ) → mag z < 2 ^ hbits w → to_z w (of_z w z) ≡ z
 back w z fits = to_z-of_z w z (record { sfits = fits })
+
+-- a whole byte, cast
+pub byte_law : (n : ℕ) → n < 2 ^ 8 → to_z w8 n ≡ signed 8 n
+byte_law n h = by (ltb n 128) refl
+  where
+    by : (b : Bool) → ltb n 128 ≡ b → to_z w8 n ≡ signed 8 n
+    by true e = kept w8 8 n (ltb-true _ _ e) (ltb-true _ _ e)
+    by false e =
+        let high : to_z w8 n ≡ negsuc (256 - suc n) = simp e in
+        high ∙ sym (upper_half 8 n (ltb-false _ _ e) ∙ below n 256 h)

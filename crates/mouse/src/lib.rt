@@ -20,12 +20,6 @@ pub struct Motion {
     pub pan: i8,
 }
 
-#[derive(Clone, Copy)]
-pub enum Moved {
-    Refused(Refusal),
-    By(Motion),
-}
-
 // Twelve bits of two's complement.
 fn signed12(bits: u16) -> i16
     requires { bits < 4096 }
@@ -35,16 +29,6 @@ fn signed12(bits: u16) -> i16
         return bits as i16;
     }
     bits as i16 - 4096
-}
-
-// Eight bits of two's complement. A cast keeps the number, so the upper half is lowered as an i16 first.
-fn signed8(bits: u8) -> i8
-    ensures { result ≡ signed 8 bits }
-{
-    if bits < 128 {
-        return bits as i8;
-    }
-    (bits as i16 - 256) as i8
 }
 
 // A byte, then the low nibble of the next.
@@ -58,21 +42,21 @@ fn x_of(low: u8, nibbles: u8) -> i16
 fn y_of(nibbles: u8, high: u8) -> i16
     ensures { result ≡ signed 12 (nibbles / 16 + 16 * high) }
 {
-    signed12((nibbles / 16) as u16 + 16 * (high as u16))
+    signed12(u16::from(nibbles / 16) + 16 * u16::from(high))
 }
 
 // Reads a mouse payload: refusal 3 where it is not 7 bytes, or the movement.
-pub fn movement(payload: &[u8]) -> Moved
+pub fn movement(payload: &[u8]) -> Result<Motion, Refusal>
     ensures movement { moved_of result ≡ mouse_rule payload.now }
 {
     if payload.len() != PAYLOAD_LENGTH {
-        return Moved::Refused(Refusal::WrongLength);
+        return Err(Refusal::WrongLength);
     }
-    Moved::By(Motion {
+    Ok(Motion {
         buttons: report::join2(payload[0], payload[1]),
         x: x_of(payload[2], payload[3]),
         y: y_of(payload[3], payload[4]),
-        wheel: signed8(payload[5]),
-        pan: signed8(payload[6]),
+        wheel: payload[5].cast_signed(),
+        pan: payload[6].cast_signed(),
     })
 }

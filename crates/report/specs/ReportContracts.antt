@@ -1,13 +1,14 @@
 -- Helpers of contracts: the program's refusals and readings, in the terms of the rules.
-use Rattle.std.specs.Prelude.{ℕ}
+use Rattle.std.specs.Prelude.{ℕ, cond, eqb, Option, Some, None, Result, Ok, Err}
 use Rattle.report.specs.Refusals.{empty_report, unknown_id, wrong_length, down_only, no_such_port, reserved_sub_id, not_paired, not_declared, forbidden, no_room, already_waiting, places_full, not_waiting, reserved_bits, other_edition, broken_line, dirty_padding}
+use Rattle.report.specs.Sizes.{length_of}
 use Rattle.report.specs.Reading.{Report, Read, refused, hidpp, dj, empty_list}
 use Rattle.report.specs.declared.Refusal.{Refusal}
 use Rattle.report.specs.declared.Refusal.TheVariants as refusals
 use Rattle.report.specs.declared.HidppReport.{HidppReport}
 use Rattle.report.specs.declared.DjReport.{DjReport}
 use Rattle.report.specs.declared.Reading.{Reading}
-use Rattle.report.specs.declared.Reading.TheVariants.{Refused, Hidpp, Dj, EmptyList}
+use Rattle.report.specs.declared.Reading.TheVariants.{Hidpp, Dj, EmptyList}
 
 -- the number of each refusal of the program
 abbrev pub number_of : Refusal → ℕ
@@ -37,8 +38,12 @@ hidpp_of h =
 abbrev pub dj_of : DjReport → Report
 dj_of d = record { id = d.id; device = d.device.0; byte2 = d.kind; byte3 = d.p0; start = d.start; size = d.length }
 
-abbrev pub reading_of : Reading → Read
-reading_of (Refused r) = refused (number_of r)
-reading_of (Hidpp h) = hidpp (hidpp_of h)
-reading_of (Dj d) = dj (dj_of d)
-reading_of (EmptyList d) = empty_list (dj_of d)
+-- the length of a report with this id, or nothing where the rules have 0
+abbrev pub length_found : ℕ → Option ℕ
+length_found id = cond (eqb (length_of id) 0) None (Some (length_of id))
+
+abbrev pub reading_of : Result Reading Refusal → Read
+reading_of (Err r) = refused (number_of r)
+reading_of (Ok (Hidpp h)) = hidpp (hidpp_of h)
+reading_of (Ok (Dj d)) = dj (dj_of d)
+reading_of (Ok (EmptyList d)) = empty_list (dj_of d)

@@ -5,64 +5,46 @@ ghost use Rattle.std.specs.Prelude.{◌≡◌, ◌≤◌, length};
 ghost use Rattle.report.specs.Ports.{in_range, is_device, is_port};
 ghost use Rattle.report.specs.Sizes.{length_of, is_hidpp, shortest_size, byte, joined2, joined4};
 ghost use Rattle.report.specs.Reading.{read_rule, family_rule, hidpp_rule, dj_rule, is_reserved, goes_down, is_empty_list, has_port};
-ghost use Rattle.report.specs.ReportContracts.{number_of, hidpp_of, dj_of, reading_of};
+ghost use Rattle.report.specs.ReportContracts.{number_of, length_found, hidpp_of, dj_of, reading_of};
 
 pub mod radio;
 
 // A device number: byte 1 of every report. 1 to 6 are the paired devices, 255 is the receiver.
-#[derive(Clone, Copy)]
+#[derive(Clone, Copy, PartialEq, Eq)]
 pub struct Device(pub u8);
 
 // A feature index, or a sub id of HID++ 1.0: byte 2 of a HID++ report.
-#[derive(Clone, Copy)]
+#[derive(Clone, Copy, PartialEq, Eq)]
 pub struct FeatureIndex(pub u8);
 
-// Why a call was refused. 01, "Refusal numbers", in the order of its table, and then what 02 adds.
-#[derive(Clone, Copy)]
+// Why a call was refused, by its number. 01, "Refusal numbers", in the order of its table, and then what 02 adds.
+#[derive(Clone, Copy, PartialEq, Eq)]
 pub enum Refusal {
-    EmptyReport,
-    UnknownId,
-    WrongLength,
-    DownOnly,
-    NoSuchPort,
-    ReservedSubId,
-    NotPaired,
-    NotDeclared,
-    Forbidden,
-    NoRoom,
-    AlreadyWaiting,
-    PlacesFull,
-    NotWaiting,
-    ReservedBits,
-    OtherEdition,
-    BrokenLine,
-    DirtyPadding,
+    EmptyReport = 1,
+    UnknownId = 2,
+    WrongLength = 3,
+    DownOnly = 4,
+    NoSuchPort = 5,
+    ReservedSubId = 6,
+    NotPaired = 7,
+    NotDeclared = 8,
+    Forbidden = 9,
+    NoRoom = 10,
+    AlreadyWaiting = 11,
+    PlacesFull = 12,
+    NotWaiting = 13,
+    ReservedBits = 14,
+    OtherEdition = 15,
+    BrokenLine = 16,
+    DirtyPadding = 17,
 }
 
-impl Refusal {
-    // The number of document 01, or 02.
-    pub fn number(self) -> u8
-        ensures number { result ≡ number_of self }
-    {
-        match self {
-            Refusal::EmptyReport => 1,
-            Refusal::UnknownId => 2,
-            Refusal::WrongLength => 3,
-            Refusal::DownOnly => 4,
-            Refusal::NoSuchPort => 5,
-            Refusal::ReservedSubId => 6,
-            Refusal::NotPaired => 7,
-            Refusal::NotDeclared => 8,
-            Refusal::Forbidden => 9,
-            Refusal::NoRoom => 10,
-            Refusal::AlreadyWaiting => 11,
-            Refusal::PlacesFull => 12,
-            Refusal::NotWaiting => 13,
-            Refusal::ReservedBits => 14,
-            Refusal::OtherEdition => 15,
-            Refusal::BrokenLine => 16,
-            Refusal::DirtyPadding => 17,
-        }
+// The number of document 01, or 02.
+impl From<Refusal> for u8 {
+    ghost from_gives = { λ refusal number. number ≡ number_of refusal };
+
+    fn from(refusal: Refusal) -> u8 {
+        refusal as u8
     }
 }
 
@@ -122,9 +104,9 @@ pub struct DjReport {
     pub length: u8,
 }
 
+// What a report holds.
 #[derive(Clone, Copy)]
 pub enum Reading {
-    Refused(Refusal),
     Hidpp(HidppReport),
     Dj(DjReport),
     // A list of the paired devices that has none. It is for no port.
@@ -135,31 +117,28 @@ pub enum Reading {
 pub fn byte_at(bytes: &[u8], offset: usize) -> u8
     ensures byte { result ≡ byte bytes.now offset }
 {
-    if offset < bytes.len() {
-        return bytes[offset];
-    }
-    0
+    bytes.get(offset).copied().unwrap_or(0)
 }
 
 // Two bytes as one number, the lowest first.
 pub fn join2(a: u8, b: u8) -> u16
     ensures joined { result ≡ joined2 a b }
 {
-    (a as u16) + 256 * (b as u16)
+    u16::from_le_bytes([a, b])
 }
 
 // Four bytes as one number, the lowest first.
 pub fn join4(a: u8, b: u8, c: u8, d: u8) -> u32
     ensures joined { result ≡ joined4 a b c d }
 {
-    (a as u32) + 256 * (b as u32) + 65536 * (c as u32) + 16777216 * (d as u32)
+    u32::from_le_bytes([a, b, c, d])
 }
 
 // Whether lo <= x <= hi.
 pub fn within(lo: u8, x: u8, hi: u8) -> bool
     ensures inside { result ≡ in_range lo x hi }
 {
-    if lo <= x { x <= hi } else { false }
+    lo <= x && x <= hi
 }
 
 // Whether the number is that of a device that can be paired.
@@ -173,23 +152,20 @@ pub fn is_device(device: Device) -> bool
 pub fn is_port(device: Device) -> bool
     ensures named { result ≡ is_port device.0 }
 {
-    if is_device(device) {
-        return true;
-    }
-    device.0 == RECEIVER
+    is_device(device) || device.0 == RECEIVER
 }
 
-// The length of a report with this id, or 0 where no report has it.
+// The length of a report with this id, where a report has it.
 #[tactic(auto, unfolding(crate::specs::Sizes::length_of))]
-pub fn length_of(id: u8) -> u8
-    ensures length { result ≡ length_of id }
+pub fn length_of(id: u8) -> Option<u8>
+    ensures length { result ≡ length_found id }
 {
     match id {
-        HIDPP_SHORT => 7,
-        HIDPP_LONG => 20,
-        DJ_SHORT => 15,
-        DJ_LONG => 32,
-        _ => 0,
+        HIDPP_SHORT => Some(7),
+        HIDPP_LONG => Some(20),
+        DJ_SHORT => Some(15),
+        DJ_LONG => Some(32),
+        _ => None,
     }
 }
 
@@ -197,54 +173,41 @@ pub fn length_of(id: u8) -> u8
 pub fn is_hidpp(id: u8) -> bool
     ensures family { result ≡ is_hidpp id }
 {
-    if id == HIDPP_SHORT {
-        return true;
-    }
-    id == HIDPP_LONG
+    id == HIDPP_SHORT || id == HIDPP_LONG
 }
 
 // The sub ids that no device sends.
 fn is_reserved(byte2: FeatureIndex) -> bool
     ensures { result ≡ is_reserved byte2.0 }
 {
-    if within(0x84, byte2.0, 0x8e) {
-        return true;
-    }
-    within(0x90, byte2.0, 0xfe)
+    within(0x84, byte2.0, 0x8e) || within(0x90, byte2.0, 0xfe)
 }
 
-fn read_hidpp(report: HidppReport) -> Reading
+#[tactic(auto, unfolding(crate::specs::Reading::hidpp_rule))]
+fn read_hidpp(report: HidppReport) -> Result<Reading, Refusal>
     ensures { reading_of result ≡ hidpp_rule (hidpp_of report) }
 {
-    let device = report.device;
-    let byte2 = report.byte2;
-    if is_port(device) {
-        if is_reserved(byte2) {
-            return Reading::Refused(Refusal::ReservedSubId);
-        }
-        return Reading::Hidpp(report);
+    if !is_port(report.device) {
+        return Err(Refusal::NoSuchPort);
     }
-    Reading::Refused(Refusal::NoSuchPort)
+    if is_reserved(report.byte2) {
+        return Err(Refusal::ReservedSubId);
+    }
+    Ok(Reading::Hidpp(report))
 }
 
 // The DJ types that only go down: commands, and the keyboard LEDs.
 fn goes_down(kind: u8) -> bool
     ensures { result ≡ goes_down kind }
 {
-    if DJ_COMMANDS <= kind {
-        return true;
-    }
-    kind == DJ_LEDS
+    DJ_COMMANDS <= kind || kind == DJ_LEDS
 }
 
 // Whether a DJ report says that no device is paired.
 fn is_empty_list(kind: u8, p0: u8) -> bool
     ensures { result ≡ is_empty_list kind p0 }
 {
-    if kind == DJ_PAIRED {
-        return p0 / 2 % 2 == 1;
-    }
-    false
+    kind == DJ_PAIRED && p0 / 2 % 2 == 1
 }
 
 // Whether a DJ report of this type is for the device.
@@ -252,31 +215,32 @@ fn has_port(device: Device, kind: u8) -> bool
     ensures { result ≡ has_port device.0 kind }
 {
     if kind <= DJ_CONNECTION {
-        return is_device(device);
+        is_device(device)
+    } else {
+        is_port(device)
     }
-    is_port(device)
 }
 
 // The index of an empty list is not looked at.
-fn read_dj(report: DjReport) -> Reading
+#[tactic(auto, unfolding(crate::specs::Reading::dj_rule))]
+fn read_dj(report: DjReport) -> Result<Reading, Refusal>
     ensures { reading_of result ≡ dj_rule (dj_of report) }
 {
-    let device = report.device;
-    let kind = report.kind;
-    if goes_down(kind) {
-        return Reading::Refused(Refusal::DownOnly);
+    if goes_down(report.kind) {
+        return Err(Refusal::DownOnly);
     }
-    if is_empty_list(kind, report.p0) {
-        return Reading::EmptyList(report);
+    if is_empty_list(report.kind, report.p0) {
+        return Ok(Reading::EmptyList(report));
     }
-    if has_port(device, kind) {
-        return Reading::Dj(report);
+    if !has_port(report.device, report.kind) {
+        return Err(Refusal::NoSuchPort);
     }
-    Reading::Refused(Refusal::NoSuchPort)
+    Ok(Reading::Dj(report))
 }
 
 // Reads a report that has the length of its id.
-fn read_sized(bytes: &[u8], size: u8) -> Reading
+#[tactic(auto, unfolding(crate::specs::Reading::family_rule, crate::specs::Reading::report_from))]
+fn read_sized(bytes: &[u8], size: u8) -> Result<Reading, Refusal>
     requires whole { length bytes.now ≡ size }
     requires long { shortest_size ≤ size }
     ensures { reading_of result ≡ family_rule bytes.now }
@@ -305,18 +269,18 @@ fn read_sized(bytes: &[u8], size: u8) -> Reading
 }
 
 // Reads one report: the refusals 1 to 6, or what it holds.
-pub fn read(bytes: &[u8]) -> Reading
+#[tactic(auto, unfolding(crate::specs::Reading::read_rule))]
+pub fn read(bytes: &[u8]) -> Result<Reading, Refusal>
     ensures reading { reading_of result ≡ read_rule bytes.now }
 {
-    if bytes.len() == 0 {
-        return Reading::Refused(Refusal::EmptyReport);
+    if bytes.is_empty() {
+        return Err(Refusal::EmptyReport);
     }
-    let size = length_of(bytes[0]);
-    if size == 0 {
-        return Reading::Refused(Refusal::UnknownId);
-    }
-    if bytes.len() != size as usize {
-        return Reading::Refused(Refusal::WrongLength);
+    let Some(size) = length_of(bytes[0]) else {
+        return Err(Refusal::UnknownId);
+    };
+    if bytes.len() != usize::from(size) {
+        return Err(Refusal::WrongLength);
     }
     read_sized(bytes, size)
 }

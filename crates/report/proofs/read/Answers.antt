@@ -1,38 +1,26 @@
 -- `report::read` meets its contract: each way out has the tests that led there.
-use mathlib.Core.Path.{sym, ◌∙◌, subst}
-use Prim.Native.Nat.{ℕ, ◌≤◌}
-use borrow.Author.Tests.{eq-eqb, ne_eqb}
-use Rattle.report.specs.Sizes.{shortest_size}
-use Rattle.report.proofs.SizesLaws.{sized, unsized}
+use Rattle.std.proofs.Common.{sym, ◌∙◌, eq-eqb, ne_eqb}
 use Rattle.report.specs.Reading.{read_rule}
+use Rattle.report.proofs.SizesLaws.{found_sized, none_unsized}
 use Rattle.report.proofs.read.Goals as goal
 
-pub returns-then-bytes-eq0 : goal.returns-then-bytes-eq0
+pub returns-in_default : goal.returns-in_default
 unfolding read_rule
-returns-then-bytes-eq0 c = record {
-  reading = simp (eq-eqb _ _ c.if-bytes-eq0.true);
+returns-in_default c = record {
+  reading = simp (sym c.is_empty.ensures ∙ c.if-is_empty.false, none_unsized _ c.in_default.ensures.length);
 }
 
-pub returns-then-size-eq0 : goal.returns-then-size-eq0
+pub returns-then-bytes-from : goal.returns-then-bytes-from
 unfolding read_rule
-returns-then-size-eq0 c = record {
-  reading = simp (ne_eqb _ _ c.if-bytes-eq0.false, unsized _ (sym c.length_of-size.ensures.length ∙ c.if-size-eq0.true));
-}
+returns-then-bytes-from c =
+    let known = found_sized _ _ c.in-Some.ensures.length in
+    record { reading = simp (sym c.is_empty.ensures ∙ c.if-is_empty.false, known.0, ne_eqb _ _ (λ z. c.if-bytes-from.true (z ∙ sym (c.from.ensures ∙ known.1.0)))); }
 
-pub returns-then-bytes-size : goal.returns-then-bytes-size
-unfolding read_rule
-returns-then-bytes-size c = record {
-  reading = simp (ne_eqb _ _ c.if-bytes-eq0.false, (sized _ (λ z. c.if-size-eq0.false (c.length_of-size.ensures.length ∙ z))).0, ne_eqb _ _ (λ z. c.if-bytes-size.true (z ∙ sym c.length_of-size.ensures.length)));
-}
-
-pub read_sized-requires : goal.read_sized-requires
-read_sized-requires c = record {
-  whole = c.if-bytes-size.false;
-  long = subst (λ (n : ℕ). shortest_size ≤ n) (sym c.length_of-size.ensures.length) (sized _ (λ z. c.if-size-eq0.false (c.length_of-size.ensures.length ∙ z))).1;
-}
+pub read_sized-requires-clause-long : goal.read_sized-requires-clause-long
+read_sized-requires-clause-long c = (found_sized _ _ c.in-Some.ensures.length).1.1
 
 pub returns : goal.returns
 unfolding read_rule
-returns c = record {
-  reading = simp (ne_eqb _ _ c.if-bytes-eq0.false, (sized _ (λ z. c.if-size-eq0.false (c.length_of-size.ensures.length ∙ z))).0, eq-eqb _ _ (c.if-bytes-size.false ∙ c.length_of-size.ensures.length)) c.read_sized.ensures;
-}
+returns c =
+    let known = found_sized _ _ c.in-Some.ensures.length in
+    record { reading = simp (sym c.is_empty.ensures ∙ c.if-is_empty.false, known.0, eq-eqb _ _ (c.if-bytes-from.false ∙ (c.from.ensures ∙ known.1.0))) c.read_sized.ensures; }
