@@ -3,7 +3,7 @@ use Rattle.std.specs.Prelude.{ℕ, ◌-◌, ◌≡◌, List, map}
 use Rattle.std.proofs.Common.{ap, arith, ne_eqb, eqb-true}
 use Rattle.report.proofs.ChoicesLaws.{by_case}
 use Rattle.port.specs.declared.Request.{Request}
-use Rattle.port.specs.declared.Ticked.{Ticked}
+use Rattle.port.specs.Ticks.{Ticked}
 use Rattle.port.specs.Places.{is_empty, sum_over}
 use Rattle.port.specs.Ticks.{with_ticks, after_tick, one_if_ending, tick_rule}
 

@@ -1,13 +1,9 @@
 -- Document 01, "Ports and their records", and document 02, Ask 1 (the serial): what is fresh.
-use Rattle.std.specs.Prelude.{ℕ, suc, Bool, true, false, cond, List, [], ◌∷◌, get_or, replicate, eqb}
+use Rattle.std.specs.Prelude.{ℕ, suc, Bool, true, false, cond, List, [], ◌∷◌, get_or, replicate, eqb, Option, None}
 use Rattle.port.specs.declared.Port.{Port}
 use Rattle.port.specs.declared.Request.{Request}
 use Rattle.port.specs.declared.Version.{Version}
-use Rattle.port.specs.declared.Version.TheVariants as versions
 use Rattle.port.specs.declared.Battery.{Battery}
-use Rattle.port.specs.declared.Battery.TheVariants as batteries
-use Rattle.port.specs.declared.Serial.{Serial}
-use Rattle.port.specs.declared.Serial.TheVariants as serials
 use Rattle.report.specs.declared.FeatureIndex.{FeatureIndex}
 
 -- places for waiting requests on a port
@@ -62,10 +58,10 @@ fresh_port =
       wpid = 0;
       reports = 0;
       up = false;
-      version = versions.Unknown;
+      version = None;
       features = replicate feature_count (record { 0 = 0 });
-      battery = batteries.Unknown;
-      serial = serials.Unknown;
+      battery = None;
+      serial = None;
       places = replicate place_count empty_place;
     }
 
@@ -82,13 +78,13 @@ abbrev pub feature_at : List FeatureIndex → ℕ → ℕ
 feature_at features slot = (get_or features slot (record { 0 = 0 })).0
 
 -- a port with one thing of it changed
-unfoldable pub with_version : Port → Version → Port
+unfoldable pub with_version : Port → Option Version → Port
 with_version p x = record { paired = p.paired; wpid = p.wpid; reports = p.reports; up = p.up; version = x; features = p.features; battery = p.battery; serial = p.serial; places = p.places }
 
-unfoldable pub with_battery : Port → Battery → Port
+unfoldable pub with_battery : Port → Option Battery → Port
 with_battery p x = record { paired = p.paired; wpid = p.wpid; reports = p.reports; up = p.up; version = p.version; features = p.features; battery = x; serial = p.serial; places = p.places }
 
-unfoldable pub with_serial : Port → Serial → Port
+unfoldable pub with_serial : Port → Option ℕ → Port
 with_serial p x = record { paired = p.paired; wpid = p.wpid; reports = p.reports; up = p.up; version = p.version; features = p.features; battery = p.battery; serial = x; places = p.places }
 
 unfoldable pub with_features : Port → List FeatureIndex → Port

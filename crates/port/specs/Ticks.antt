@@ -1,7 +1,6 @@
 -- Document 01, "Writing": a tick, on the places of one port.
 use Rattle.std.specs.Prelude.{ℕ, ◌-◌, List, map, cond, eqb}
 use Rattle.port.specs.declared.Request.{Request}
-use Rattle.port.specs.declared.Ticked.{Ticked}
 use Rattle.port.specs.Records.{empty_place}
 use Rattle.port.specs.Places.{is_empty, sum_over}
 
@@ -14,6 +13,11 @@ after_tick r = cond (is_empty r) r (cond (eqb r.ticks 1) empty_place (with_ticks
 
 abbrev pub one_if_ending : Request → ℕ
 one_if_ending r = cond (eqb r.ticks 1) 1 0
+
+-- the places after one tick, and the number of requests that it ended
+pub record Ticked : Type 0 where
+  pub places : List Request
+  pub ended : ℕ
 
 unfoldable pub tick_rule : List Request → Ticked
 tick_rule places = record { places = map after_tick places; ended = sum_over one_if_ending places }

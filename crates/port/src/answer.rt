@@ -2,8 +2,7 @@
 ghost use Rattle.std.specs.Prelude.{◌≡◌};
 ghost use Rattle.port.specs.PortContracts.{kind_number};
 
-use crate::Port;
-use report::{Device, FeatureIndex, Refusal};
+use report::{Device, FeatureIndex};
 
 // What every answer to a HID++ report carries: the port, bytes 2 and 3, and where the parameters lie.
 #[derive(Clone, Copy)]
@@ -21,24 +20,25 @@ pub const ERROR_1: u8 = 0x8f;
 pub const ERROR_2: u8 = 0xff;
 
 // The two kinds of error: of HID++ 1.0, and of HID++ 2.0.
-#[derive(Clone, Copy)]
+#[derive(Clone, Copy, PartialEq, Eq)]
 pub enum ErrorKind {
     Hidpp1,
     Hidpp2,
 }
 
-impl ErrorKind {
-    // Byte 2 of such an error.
-    pub fn number(self) -> u8
-        ensures number { result ≡ kind_number self }
-    {
-        match self {
+// Byte 2 of such an error.
+impl From<ErrorKind> for u8 {
+    ghost from_gives = { λ kind number. number ≡ kind_number kind };
+
+    fn from(kind: ErrorKind) -> u8 {
+        match kind {
             ErrorKind::Hidpp1 => ERROR_1,
             ErrorKind::Hidpp2 => ERROR_2,
         }
     }
 }
 
+// A notification of the receiver.
 #[derive(Clone, Copy)]
 pub enum Notice {
     Unpaired {
@@ -63,9 +63,9 @@ pub enum Notice {
     },
 }
 
+// What a report is that was taken.
 #[derive(Clone, Copy)]
 pub enum Taken {
-    Refused(Refusal),
     // The reply that ended a request; where a device's serial changed, the number of requests that it dropped there.
     Reply {
         about: About,
@@ -86,11 +86,4 @@ pub enum Taken {
         length: u8,
     },
     Noticed(Notice),
-}
-
-// What taking a report gives at its port: the answer, and the port after it.
-#[derive(Clone, Copy)]
-pub struct PortTaken {
-    pub answer: Taken,
-    pub port: Port,
 }

@@ -1,11 +1,12 @@
 // What one port holds, and its places for waiting requests.
 #![tactic(auto)]
 
-ghost use Rattle.std.specs.Prelude.{◌≡◌, ◌-◌, ◌≤◌, set};
+ghost use Rattle.std.specs.Prelude.{◌≡◌, set};
 ghost use Rattle.port.specs.Records.{fresh_port, made_fresh, empty_place, request_in, feature_at, with_version, with_battery, with_serial, with_features, with_places, with_link, with_pairing};
-ghost use Rattle.port.specs.Places.{matches, first_at, is_empty, one_if_waiting, count_waiting};
-ghost use Rattle.port.specs.Searching.{Searches};
-ghost use Rattle.port.specs.Ticks.{after_tick, one_if_ending, tick_rule};
+ghost use Rattle.port.specs.Places.{matches, is_empty, count_waiting};
+ghost use Rattle.port.specs.Searching.{found_in, Finds};
+ghost use Rattle.port.specs.Ticks.{after_tick, tick_rule};
+ghost use Rattle.port.specs.PortContracts.{ticked_of};
 
 pub mod answer;
 pub mod waiting;
@@ -24,12 +25,19 @@ pub const MAX_INDEX: u8 = 63;
 // Ports of a station: the devices, and the receiver.
 pub const PORTS: usize = report::DEVICES as usize + 1;
 
-// The first three parameters of a request or of a report.
+// What a call gives: its answer, and the port, the ports or the station after it.
 #[derive(Clone, Copy)]
+pub struct Called<A, S> {
+    pub answer: A,
+    pub next: S,
+}
+
+// The first three parameters of a request or of a report.
+#[derive(Clone, Copy, PartialEq, Eq)]
 pub struct FirstParameters(pub u8, pub u8, pub u8);
 
 // One pending request. Document 01: a place. It is empty where no ticks are left.
-#[derive(Clone, Copy)]
+#[derive(Clone, Copy, PartialEq, Eq)]
 pub struct Request {
     pub byte2: FeatureIndex,
     pub byte3: u8,
@@ -37,43 +45,38 @@ pub struct Request {
     pub ticks: u8,
 }
 
-#[derive(Clone, Copy)]
-pub enum Version {
-    Unknown,
-    // Major, minor.
-    Known(u8, u8),
+// The version of the protocol that a device speaks.
+#[derive(Clone, Copy, PartialEq, Eq)]
+pub struct Version {
+    pub major: u8,
+    pub minor: u8,
 }
 
-#[derive(Clone, Copy)]
-pub enum Battery {
-    Unknown,
-    // Level, next, status.
-    Known(u8, u8, u8),
-}
-
-// The number that tells a device from others of its model.
-#[derive(Clone, Copy)]
-pub enum Serial {
-    Unknown,
-    Known(u32),
+#[derive(Clone, Copy, PartialEq, Eq)]
+pub struct Battery {
+    pub level: u8,
+    pub next: u8,
+    pub status: u8,
 }
 
 // The record of one device, or of the receiver.
-#[derive(Clone, Copy)]
+#[derive(Clone, Copy, PartialEq, Eq)]
 pub struct Port {
     pub paired: bool,
     pub wpid: u16,
     // Bit t: the device sends radio reports of type t.
     pub reports: u32,
     pub up: bool,
-    pub version: Version,
+    pub version: Option<Version>,
     // By slot, the index found for each known feature, 0 where not found.
     pub features: [FeatureIndex; FEATURES],
-    pub battery: Battery,
-    pub serial: Serial,
+    pub battery: Option<Battery>,
+    // The number that tells a device from others of its model.
+    pub serial: Option<u32>,
     pub places: [Request; PLACES],
 }
 
+#[tactic(auto, unfolding(crate::specs::Records::empty_place))]
 pub fn empty_place() -> Request
     ensures empty { result ≡ empty_place }
 {
@@ -85,25 +88,25 @@ pub fn empty_place() -> Request
     }
 }
 
+#[tactic(auto, unfolding(crate::specs::Records::fresh_port))]
 pub fn fresh() -> Port
     ensures fresh { result ≡ fresh_port }
 {
-    let none = FeatureIndex(0);
-    let empty = empty_place();
     Port {
         paired: false,
         wpid: 0,
         reports: 0,
         up: false,
-        version: Version::Unknown,
-        features: [none; FEATURES],
-        battery: Battery::Unknown,
-        serial: Serial::Unknown,
-        places: [empty; PLACES],
+        version: None,
+        features: [FeatureIndex(0); FEATURES],
+        battery: None,
+        serial: None,
+        places: [empty_place(); PLACES],
     }
 }
 
 // What becomes of a port whose device is gone, or is another: all is as fresh.
+#[tactic(auto, unfolding(crate::specs::Records::made_fresh))]
 pub fn made_fresh(port: Port) -> Port
     ensures fresh { result ≡ made_fresh port }
 {
@@ -111,43 +114,38 @@ pub fn made_fresh(port: Port) -> Port
 }
 
 // The port made fresh, and paired with these.
+#[tactic(auto, unfolding(crate::specs::Records::with_pairing))]
 pub fn paired_anew(port: Port, wpid: u16, reports: u32) -> Port
     ensures paired { result ≡ with_pairing (made_fresh port) wpid reports }
 {
-    let mut next = made_fresh(port);
-    next.paired = true;
-    next.wpid = wpid;
-    next.reports = reports;
-    next
+    Port {
+        paired: true,
+        wpid,
+        reports,
+        ..made_fresh(port)
+    }
 }
 
 // Whether a request with these bytes 2 and 3 waits in the place.
 pub fn is_match(request: Request, byte2: FeatureIndex, byte3: u8) -> bool
     ensures matched { result ≡ matches byte2.0 byte3 request }
 {
-    if request.ticks == 0 {
-        return false;
-    }
-    if request.byte2.0 == byte2.0 {
-        return request.byte3 == byte3;
-    }
-    false
+    request.ticks != 0 && request.byte2 == byte2 && request.byte3 == byte3
 }
 
-// The lowest place where a request with these bytes 2 and 3 waits, or PLACES.
-pub fn first_match(places: [Request; PLACES], byte2: FeatureIndex, byte3: u8) -> usize
-    ensures lowest { result ≡ first_at (matches byte2.0 byte3) places }
-    ensures searched { Searches (matches byte2.0 byte3) places result }
+// The lowest place where a request with these bytes 2 and 3 waits.
+#[tactic(auto, using(crate::proofs::SearchingLaws::position_law))]
+pub fn first_match(
+    places: [Request; PLACES],
+    byte2: FeatureIndex,
+    byte3: u8,
+) -> Option<usize>
+    ensures lowest { result ≡ found_in (matches byte2.0 byte3) places }
+    ensures searched { Finds (matches byte2.0 byte3) places result }
 {
-    let mut place = 0;
-    while place < PLACES {
-        let request = places[place];
-        if is_match(request, byte2, byte3) {
-            return place;
-        }
-        place += 1;
-    }
-    PLACES
+    places
+        .iter()
+        .position(|request| is_match(*request, byte2, byte3))
 }
 
 fn is_empty(request: Request) -> bool
@@ -156,100 +154,46 @@ fn is_empty(request: Request) -> bool
     request.ticks == 0
 }
 
-// The lowest empty place, or PLACES.
-pub fn first_empty(places: [Request; PLACES]) -> usize
-    ensures lowest { result ≡ first_at is_empty places }
-    ensures searched { Searches is_empty places result }
+// The lowest empty place.
+#[tactic(auto, using(crate::proofs::SearchingLaws::position_law))]
+pub fn first_empty(places: [Request; PLACES]) -> Option<usize>
+    ensures lowest { result ≡ found_in is_empty places }
+    ensures searched { Finds is_empty places result }
 {
-    let mut at = 0;
-    while at < PLACES {
-        let request = places[at];
-        if is_empty(request) {
-            return at;
-        }
-        at += 1;
-    }
-    PLACES
+    places.iter().position(|request| is_empty(*request))
 }
 
 // The number of requests that wait.
+#[tactic(auto, using(crate::proofs::SumLaws::waiting))]
 pub fn count_waiting(places: [Request; PLACES]) -> u8
     ensures count { result ≡ count_waiting places }
 {
-    let mut count: u8 = 0;
-    let mut i = 0;
-    while i < PLACES {
-        let request = places[i];
-        count = count + one_if_waiting(request);
-        i += 1;
-    }
-    count
-}
-
-fn one_if_waiting(request: Request) -> u8
-    ensures counted { result ≡ one_if_waiting request }
-    ensures one { result ≤ 1 }
-{
-    if request.ticks == 0 {
-        return 0;
-    }
-    1
-}
-
-// The places after one tick, and the number of requests that it ended.
-#[derive(Clone, Copy)]
-pub struct Ticked {
-    pub places: [Request; PLACES],
-    pub ended: u8,
-}
-
-// One tick less; 0 stays 0.
-fn one_less(ticks: u8) -> u8
-    ensures { result ≡ ticks - 1 }
-{
-    if ticks == 0 {
-        return 0;
-    }
-    ticks - 1
+    places.iter().filter(|request| !is_empty(**request)).count() as u8
 }
 
 // One place after one tick: an empty one stays, a request with one tick left ends, any other has one tick less.
+#[tactic(auto, unfolding(crate::specs::Ticks::after_tick))]
 fn lowered(request: Request) -> Request
     ensures { result ≡ after_tick request }
 {
-    if request.ticks == 1 {
-        return empty_place();
+    match request.ticks {
+        0 => request,
+        1 => empty_place(),
+        ticks => Request {
+            ticks: ticks - 1,
+            ..request
+        },
     }
-    let mut next = request;
-    next.ticks = one_less(request.ticks);
-    next
 }
 
-fn one_if_ending(request: Request) -> u8
-    ensures counted { result ≡ one_if_ending request }
-    ensures one { result ≤ 1 }
+// The number of requests that one tick ends, and the places after it.
+#[tactic(auto, unfolding(crate::specs::Ticks::tick_rule), using(crate::proofs::SumLaws::ending))]
+pub fn tick(places: [Request; PLACES]) -> Called<u8, [Request; PLACES]>
+    ensures ticked { ticked_of result ≡ tick_rule places }
 {
-    if request.ticks == 1 {
-        return 1;
-    }
-    0
-}
-
-pub fn tick(places: [Request; PLACES]) -> Ticked
-    ensures ticked { result ≡ tick_rule places }
-{
-    let mut next = places;
-    let mut ended: u8 = 0;
-    let mut i = 0;
-    while i < PLACES {
-        let request = places[i];
-        ended = ended + one_if_ending(request);
-        next[i] = lowered(request);
-        i += 1;
-    }
-    Ticked {
-        places: next,
-        ended,
+    Called {
+        answer: places.iter().filter(|request| request.ticks == 1).count() as u8,
+        next: places.map(lowered),
     }
 }
 
@@ -257,125 +201,82 @@ pub fn tick(places: [Request; PLACES]) -> Ticked
 pub fn request_in(places: [Request; PLACES], place: usize) -> Request
     ensures found { result ≡ request_in places place }
 {
-    if place < PLACES {
-        return places[place];
-    }
-    empty_place()
+    places.get(place).copied().unwrap_or(empty_place())
 }
 
 // The places with this request in one of them; past the last nothing changes.
-pub fn with_request(places: [Request; PLACES], place: usize, request: Request) -> [Request; PLACES]
+pub fn with_request(
+    mut places: [Request; PLACES],
+    place: usize,
+    request: Request,
+) -> [Request; PLACES]
     ensures stored { result ≡ set places place request }
 {
-    let mut next = places;
     if place < PLACES {
-        next[place] = request;
+        places[place] = request;
     }
-    next
+    places
 }
 
 // The index held for the known feature of a slot; 0 past the last.
 pub fn feature_at(features: [FeatureIndex; FEATURES], slot: usize) -> FeatureIndex
     ensures found { result.0 ≡ feature_at features slot }
 {
-    if slot < FEATURES {
-        return features[slot];
-    }
-    FeatureIndex(0)
+    features.get(slot).copied().unwrap_or(FeatureIndex(0))
 }
 
 // The features with this index in one slot; past the last nothing changes.
 pub fn with_feature(
-    features: [FeatureIndex; FEATURES],
+    mut features: [FeatureIndex; FEATURES],
     slot: usize,
     index: FeatureIndex,
 ) -> [FeatureIndex; FEATURES]
     ensures stored { result ≡ set features slot index }
 {
-    let mut next = features;
     if slot < FEATURES {
-        next[slot] = index;
+        features[slot] = index;
     }
-    next
+    features
 }
 
-pub fn with_version(port: Port, version: Version) -> Port
+#[tactic(auto, unfolding(crate::specs::Records::with_version))]
+pub fn with_version(port: Port, version: Option<Version>) -> Port
     ensures changed { result ≡ with_version port version }
 {
-    let features = port.features;
-    let battery = port.battery;
-    let serial = port.serial;
-    let places = port.places;
-    Port {
-        paired: port.paired,
-        wpid: port.wpid,
-        reports: port.reports,
-        up: port.up,
-        version,
-        features,
-        battery,
-        serial,
-        places,
-    }
+    Port { version, ..port }
 }
 
-pub fn with_battery(port: Port, battery: Battery) -> Port
+#[tactic(auto, unfolding(crate::specs::Records::with_battery))]
+pub fn with_battery(port: Port, battery: Option<Battery>) -> Port
     ensures changed { result ≡ with_battery port battery }
 {
-    let version = port.version;
-    let features = port.features;
-    let serial = port.serial;
-    let places = port.places;
-    Port {
-        paired: port.paired,
-        wpid: port.wpid,
-        reports: port.reports,
-        up: port.up,
-        version,
-        features,
-        battery,
-        serial,
-        places,
-    }
+    Port { battery, ..port }
 }
 
-pub fn with_serial(port: Port, serial: Serial) -> Port
+#[tactic(auto, unfolding(crate::specs::Records::with_serial))]
+pub fn with_serial(port: Port, serial: Option<u32>) -> Port
     ensures changed { result ≡ with_serial port serial }
 {
-    let version = port.version;
-    let features = port.features;
-    let battery = port.battery;
-    let places = port.places;
-    Port {
-        paired: port.paired,
-        wpid: port.wpid,
-        reports: port.reports,
-        up: port.up,
-        version,
-        features,
-        battery,
-        serial,
-        places,
-    }
+    Port { serial, ..port }
 }
 
-pub fn with_features(mut port: Port, features: [FeatureIndex; FEATURES]) -> Port
+#[tactic(auto, unfolding(crate::specs::Records::with_features))]
+pub fn with_features(port: Port, features: [FeatureIndex; FEATURES]) -> Port
     ensures changed { result ≡ with_features port features }
 {
-    port.features = features;
-    port
+    Port { features, ..port }
 }
 
-pub fn with_places(mut port: Port, places: [Request; PLACES]) -> Port
+#[tactic(auto, unfolding(crate::specs::Records::with_places))]
+pub fn with_places(port: Port, places: [Request; PLACES]) -> Port
     ensures changed { result ≡ with_places port places }
 {
-    port.places = places;
-    port
+    Port { places, ..port }
 }
 
-pub fn with_link(mut port: Port, up: bool) -> Port
+#[tactic(auto, unfolding(crate::specs::Records::with_link))]
+pub fn with_link(port: Port, up: bool) -> Port
     ensures changed { result ≡ with_link port up }
 {
-    port.up = up;
-    port
+    Port { up, ..port }
 }
