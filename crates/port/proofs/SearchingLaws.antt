@@ -4,7 +4,7 @@ use Rattle.std.specs.Prelude.{◌≡◌, Bool, get_or, ltb, position, Option, So
 use Rattle.std.proofs.Math.Path.{refl}
 use Rattle.std.proofs.Common.{sym, ◌∙◌, ap, subst, true≢false, le_of_suc-le-suc, not-suc-le-zero, ltb-true, ltb-false}
 use Rattle.std.proofs.lemmas.Option.{cond_some, none-some}
-use Rattle.std.proofs.lemmas.List.Elements.{is_position_or_len}
+use Rattle.std.proofs.lemmas.List.Recursion.{is_position_or_len}
 use Rattle.std.proofs.Math.Bool.{true, false, cond}
 use mathlib.Core.List.{List, [], ◌∷◌}
 use native.Mathlib.Omega.{arith}
@@ -14,7 +14,7 @@ use Rattle.report.proofs.ChoicesLaws.{by_case}
 use Rattle.port.specs.declared.Request.{Request}
 use Rattle.port.specs.Records.{request_in}
 use Rattle.port.specs.Places.{first_at}
-use Rattle.port.specs.Searching.{NoneBelow, Lowest, Searches, SearchesExactly, found_in}
+use Rattle.port.specs.Searching.{NoneBelow, Lowest, Searches, SearchesExactly}
 
 -- what is read of a place does not depend on what is read past the last
 in_place : (places : List Request) (i : ℕ) (d : Request) → i < length places → request_in places i ≡ get_or places i d
@@ -130,23 +130,21 @@ module _ (test : Request → Bool) where
         let all : i ≡ length places = omega (arith, s.within) in
         found_first (none_first (subst (NoneBelow test places) all s.below) ∙ e)
 
--- the library's search is the rules'
-pub position_law : (test : Request → Bool) (places : List Request) → position test places ≡ found_in test places
-unfolding first_at found_in
+-- the library's search is the rules', with nothing where none matches
+position_law : (test : Request → Bool) (places : List Request) → position test places ≡ cond (ltb (first_at test places) (length places)) (Some (first_at test places)) None
+unfolding first_at
 position_law test places =
-    ap (λ (n : ℕ). cond (ltb n (length places)) (Some n) None) (sym (is_position_or_len (first_at test) test refl (λ r rs. refl) places))
+    ap (λ (n : ℕ). cond (ltb n (length places)) (Some n) None) (sym (is_position_or_len (first_at test) test refl (λ r rs. ap (cond (test r) 0) (omega arith)) places))
 
 -- what is found is a place, and the one that the rules' search gives
-pub found_some : (test : Request → Bool) (places : List Request) {place : ℕ} → Some place ≡ found_in test places → (place ≡ first_at test places) × (place < length places)
-unfolding found_in
+pub found_some : (test : Request → Bool) (places : List Request) {place : ℕ} → Some place ≡ position test places → (place ≡ first_at test places) × (place < length places)
 found_some test places {place} e =
-    let h = cond_some (ltb (first_at test places) (length places)) (first_at test places) place (sym e) in
+    let h = cond_some (ltb (first_at test places) (length places)) (first_at test places) place (sym (e ∙ position_law test places)) in
     (sym h.1, subst (λ (n : ℕ). n < length places) h.1 (ltb-true _ _ h.0))
 
 -- and where nothing is found, that search gives no place
-pub found_none : (test : Request → Bool) (places : List Request) → ◌≡◌ {A = Option ℕ} None (found_in test places) → length places ≤ first_at test places
-unfolding found_in
-found_none test places e = go (ltb (first_at test places) (length places)) refl e
+pub found_none : (test : Request → Bool) (places : List Request) → None ≡ position test places → length places ≤ first_at test places
+found_none test places e = go (ltb (first_at test places) (length places)) refl (e ∙ position_law test places)
   where
     go : (b : Bool) → ltb (first_at test places) (length places) ≡ b → ◌≡◌ {A = Option ℕ} None (cond b (Some (first_at test places)) None) → length places ≤ first_at test places
     go true h e = absurd (none-some _ e)

@@ -1,9 +1,10 @@
 -- Laws of a loop that adds up a number over the places.
 use Prim.Native.Nat.{ℕ, zero, suc, ◌+◌, ◌≤◌, ◌<◌}
-use Rattle.std.specs.Prelude.{◌≡◌, refl, length, get_or, take, Bool, true, false, cond, not, eqb, sum_by, count_by}
+use Rattle.std.specs.Prelude.{◌≡◌, refl, length, get_or, take, Bool, true, false, cond, not, eqb, count_by}
 use Rattle.std.proofs.Common.{◌∙◌, ap, le_of_suc-le-suc, not-suc-le-zero, add-one, take_all}
 use mathlib.Core.List.{List, [], ◌∷◌}
 use native.Mathlib.Omega.{arith}
+use Rattle.std.proofs.lemmas.List.Recursion.{is_count_by}
 use Rattle.port.specs.declared.Request.{Request}
 use Rattle.port.specs.Places.{is_empty, sum_over, one_if_waiting, count_waiting}
 use Rattle.port.specs.Ticks.{one_if_ending}
@@ -36,22 +37,19 @@ module _ (f : Request → ℕ) where
   pub sum_done : {xs : List Request} {sum i : ℕ} → Summed xs sum i → length xs ≤ i → sum ≡ sum_over f xs
   sum_done {xs} {sum} {i} s h = s.so ∙ ap (sum_over f) (take_all i xs h)
 
--- a sum over the places is the library's, and the numbers of places that wait and that end are its counts
-pub summed_by : (f : Request → ℕ) (xs : List Request) → sum_by f xs ≡ sum_over f xs
+-- the numbers of places that wait and that end are the library's counts
+pub waiting : (xs : List Request) → count_waiting xs ≡ count_by (λ r. not (is_empty r)) xs
 unfolding sum_over
-summed_by f [] = refl
-summed_by f (x ∷ xs) = ap (λ (n : ℕ). f x + n) (summed_by f xs)
-
-pub waiting : (xs : List Request) → count_by (λ r. not (is_empty r)) xs ≡ count_waiting xs
-waiting xs = sum_by_same (λ r. flipped (is_empty r)) xs ∙ summed_by one_if_waiting xs
+waiting = is_count_by count_waiting (λ r. not (is_empty r)) refl (λ r rs. by (is_empty r) (count_waiting rs))
   where
-    flipped : (b : Bool) → cond (not b) 1 0 ≡ cond b 0 1
-    flipped true = refl
-    flipped false = refl
+    by : (b : Bool) (n : ℕ) → cond b 0 1 + n ≡ cond (not b) (1 + n) n
+    by true n = omega arith
+    by false n = refl
 
-    sum_by_same : {f g : Request → ℕ} → ((r : Request) → f r ≡ g r) → (ys : List Request) → sum_by f ys ≡ sum_by g ys
-    sum_by_same h [] = refl
-    sum_by_same {f} {g} h (y ∷ ys) = ap (λ (n : ℕ). n + sum_by f ys) (h y) ∙ ap (λ (n : ℕ). g y + n) (sum_by_same h ys)
-
-pub ending : (xs : List Request) → count_by (λ r. eqb r.ticks 1) xs ≡ sum_over one_if_ending xs
-ending xs = summed_by one_if_ending xs
+pub ending : (xs : List Request) → sum_over one_if_ending xs ≡ count_by (λ r. eqb r.ticks 1) xs
+unfolding sum_over
+ending = is_count_by (sum_over one_if_ending) (λ r. eqb r.ticks 1) refl (λ r rs. by (eqb r.ticks 1) (sum_over one_if_ending rs))
+  where
+    by : (b : Bool) (n : ℕ) → cond b 1 0 + n ≡ cond b (1 + n) n
+    by true n = refl
+    by false n = omega arith

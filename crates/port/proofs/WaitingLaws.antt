@@ -1,11 +1,14 @@
 -- Laws of the waiting requests: a program's test of the place that it found, and a full port as one without an empty place.
-use Rattle.std.specs.Prelude.{ℕ, suc, ◌+◌, ◌<◌, ◌≤◌, ◌≡◌, Bool, true, false, cond, List, [], ◌∷◌, length}
-use Rattle.std.proofs.Common.{subst, not-suc-le-zero, le_of_suc-le-suc, arith, lit≤, lt-ltb, le-ltb, le-leb}
+use Rattle.std.specs.Prelude.{refl, position, Option, Some, None, is_some, ok_or, Err, ℕ, suc, ◌+◌, ◌<◌, ◌≤◌, ◌≡◌, Bool, true, false, cond, List, [], ◌∷◌, length}
+use Rattle.std.proofs.Common.{sym, true≢false, subst, not-suc-le-zero, le_of_suc-le-suc, arith, lit≤, lt-ltb, le-ltb, le-leb}
 use Rattle.std.proofs.lemmas.Bool.{lt-leb}
 use Rattle.port.specs.declared.Request.{Request}
 use Rattle.port.specs.Records.{place_count}
-use Rattle.port.specs.Places.{first_at, is_empty, sum_over, count_waiting}
-use Rattle.port.specs.Waiting.{is_found, is_full}
+use Rattle.report.specs.declared.Refusal.TheVariants.{AlreadyWaiting, PlacesFull}
+use Rattle.port.specs.Places.{matches, first_at, is_empty, sum_over, count_waiting}
+use Rattle.port.specs.Waiting.{is_found, is_full, room_for}
+use Rattle.port.specs.PortContracts.{room_of}
+use Rattle.port.proofs.SearchingLaws.{found_some, found_none}
 
 pub is_found_law : {place found : ℕ} → place ≡ found → place < place_count → is_found found ≡ true
 is_found_law e h = lt-ltb _ _ (subst (λ (n : ℕ). n < place_count) e h)
@@ -50,3 +53,24 @@ module _ (places : List Request) (placed : length places ≡ place_count) {place
 
   pub full : place_count ≤ place → is_full places ≡ true
   full h = le-leb place_count (count_waiting places) (omega (arith, none_empty places (omega arith)))
+
+-- the program's search for a request that waits already, and then for an empty place
+module _ (places : List Request) (placed : length places ≡ place_count) (byte2 byte3 : ℕ) where
+  pub taken : (found : Option ℕ) → found ≡ position (matches byte2 byte3) places → is_some found ≡ true → room_of (Err AlreadyWaiting) ≡ room_for places byte2 byte3
+  unfolding room_for
+  taken (Some place) e h =
+      let found = found_some (matches byte2 byte3) places e in
+      simp (is_found_law found.0 (omega (arith, found.1, placed)))
+  taken None e h = absurd (true≢false (sym h))
+
+  pub room_left : (found : Option ℕ) → found ≡ position (matches byte2 byte3) places → is_some found ≡ false → (empty : Option ℕ) → empty ≡ position is_empty places → room_of (ok_or empty PlacesFull) ≡ room_for places byte2 byte3
+  unfolding room_for
+  room_left (Some place) e h empty o = absurd (true≢false h)
+  room_left None e h (Some place) o =
+      let none : place_count ≤ first_at (matches byte2 byte3) places = omega (arith, found_none (matches byte2 byte3) places e, placed) in
+      let found = found_some is_empty places o in
+      simp (not_found refl none, not_full places placed found.0 (omega (arith, found.1, placed)), found.0)
+  room_left None e h None o =
+      let none : place_count ≤ first_at (matches byte2 byte3) places = omega (arith, found_none (matches byte2 byte3) places e, placed) in
+      let all : place_count ≤ first_at is_empty places = omega (arith, found_none is_empty places o, placed) in
+      simp (not_found refl none, full places placed refl all)

@@ -1,5 +1,5 @@
 -- Document 02, Ask 4, in its words: for any places, two equal ones too, a search gives the lowest that matches, or none exactly when none does.
-use Rattle.std.specs.Prelude.{ℕ, ◌<◌, ◌≡◌, ◌↔◌, Bool, true, false, cond, List, length, ltb, Option, Some, None}
+use Rattle.std.specs.Prelude.{ℕ, ◌<◌, ◌≡◌, ◌↔◌, Bool, true, false, List, length, Option, Some, None}
 use Rattle.port.specs.declared.Request.{Request}
 use Rattle.port.specs.Records.{request_in}
 use Rattle.port.specs.Places.{first_at}
@@ -21,10 +21,6 @@ pub record Searches (test : Request → Bool) (places : List Request) (found : �
 -- exactly the place that the rules' own search gives
 abbrev pub SearchesExactly : (Request → Bool) → List Request → ℕ → Type 0
 SearchesExactly test places found = (found ≡ first_at test places) ↔ Searches test places found
-
--- the rules' own search, with nothing where none matches
-unfoldable pub found_in : (Request → Bool) → List Request → Option ℕ
-found_in test places = cond (ltb (first_at test places) (length places)) (Some (first_at test places)) None
 
 -- what a search of the program gives: a place, exactly when it is a place and the lowest that matches; nothing, exactly when none of them matches
 pub record Finds (test : Request → Bool) (places : List Request) (found : Option ℕ) : Type 0 where

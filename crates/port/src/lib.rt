@@ -1,11 +1,11 @@
 // What one port holds, and its places for waiting requests.
 #![tactic(auto)]
 
-ghost use Rattle.std.specs.Prelude.{◌≡◌, set};
+ghost use Rattle.std.specs.Prelude.{◌≡◌, set, position};
 ghost use Rattle.port.specs.Records.{fresh_port, made_fresh, empty_place, request_in, feature_at, with_version, with_battery, with_serial, with_features, with_places, with_link, with_pairing};
-ghost use Rattle.port.specs.Places.{matches, is_empty, count_waiting};
-ghost use Rattle.port.specs.Searching.{found_in, Finds};
-ghost use Rattle.port.specs.Ticks.{after_tick, tick_rule};
+ghost use Rattle.port.specs.Places.{matches, is_empty, sum_over, count_waiting};
+ghost use Rattle.port.specs.Searching.{Finds};
+ghost use Rattle.port.specs.Ticks.{after_tick, one_if_ending, tick_rule};
 ghost use Rattle.port.specs.PortContracts.{ticked_of};
 
 pub mod answer;
@@ -134,13 +134,12 @@ pub fn is_match(request: Request, byte2: FeatureIndex, byte3: u8) -> bool
 }
 
 // The lowest place where a request with these bytes 2 and 3 waits.
-#[tactic(auto, using(crate::proofs::SearchingLaws::position_law))]
 pub fn first_match(
     places: [Request; PLACES],
     byte2: FeatureIndex,
     byte3: u8,
 ) -> Option<usize>
-    ensures lowest { result ≡ found_in (matches byte2.0 byte3) places }
+    ensures lowest { result ≡ position (matches byte2.0 byte3) places }
     ensures searched { Finds (matches byte2.0 byte3) places result }
 {
     places
@@ -155,9 +154,8 @@ fn is_empty(request: Request) -> bool
 }
 
 // The lowest empty place.
-#[tactic(auto, using(crate::proofs::SearchingLaws::position_law))]
 pub fn first_empty(places: [Request; PLACES]) -> Option<usize>
-    ensures lowest { result ≡ found_in is_empty places }
+    ensures lowest { result ≡ position is_empty places }
     ensures searched { Finds is_empty places result }
 {
     places.iter().position(|request| is_empty(*request))
@@ -186,13 +184,20 @@ fn lowered(request: Request) -> Request
     }
 }
 
-// The number of requests that one tick ends, and the places after it.
-#[tactic(auto, unfolding(crate::specs::Ticks::tick_rule), using(crate::proofs::SumLaws::ending))]
+// The number of requests that one tick ends.
+#[tactic(auto, using(crate::proofs::SumLaws::ending))]
+fn count_ending(places: [Request; PLACES]) -> u8
+    ensures { result ≡ sum_over one_if_ending places }
+{
+    places.iter().filter(|request| request.ticks == 1).count() as u8
+}
+
+// That number, and the places after it.
 pub fn tick(places: [Request; PLACES]) -> Called<u8, [Request; PLACES]>
     ensures ticked { ticked_of result ≡ tick_rule places }
 {
     Called {
-        answer: places.iter().filter(|request| request.ticks == 1).count() as u8,
+        answer: count_ending(places),
         next: places.map(lowered),
     }
 }
