@@ -1,10 +1,9 @@
 // Which waiting request a HID++ report answers.
 #![tactic(auto)]
 
-ghost use Rattle.std.specs.Prelude.{◌≡◌};
+ghost use Rattle.std.specs.Prelude.{◌≡◌, position};
 ghost use Rattle.report.specs.ReportContracts.{hidpp_of};
-ghost use Rattle.port.specs.Places.{first_at};
-ghost use Rattle.port.specs.Searching.{Searches};
+ghost use Rattle.port.specs.Searching.{Finds};
 ghost use Rattle.matching.specs.Messages.{parameter, message_of};
 ghost use Rattle.matching.specs.Matching.{is_ping, answers, ping_waits};
 
@@ -32,14 +31,13 @@ pub fn parameter(bytes: &[u8], i: u8) -> u8
     report::byte_at(bytes, report::HIDPP_START as usize + i as usize)
 }
 
+#[tactic(auto, unfolding(crate::specs::Messages::message_of))]
 pub fn message_of(h: HidppReport, bytes: &[u8]) -> Message
     ensures message { result ≡ message_of (hidpp_of h) bytes.now }
 {
-    let device = h.device;
-    let byte2 = h.byte2;
     Message {
-        device,
-        byte2,
+        device: h.device,
+        byte2: h.byte2,
         byte3: h.byte3,
         length: h.length,
         first: FirstParameters(
@@ -54,48 +52,28 @@ pub fn message_of(h: HidppReport, bytes: &[u8]) -> Message
 pub fn is_ping(byte2: FeatureIndex, byte3: u8) -> bool
     ensures ping { result ≡ is_ping byte2.0 byte3 }
 {
-    if byte2.0 == 0 {
-        return byte3 / 16 == PING;
-    }
-    false
+    byte2.0 == 0 && byte3 / 16 == PING
 }
 
 // Whether the report is a reply to this request: to a ping only where both have the same third parameter.
 fn is_answer(m: Message, request: Request) -> bool
     ensures { result ≡ answers m request }
 {
-    if !port::is_match(request, m.byte2, m.byte3) {
-        return false;
-    }
-    if !is_ping(m.byte2, m.byte3) {
-        return true;
-    }
-    m.first.2 == request.first.2
+    port::is_match(request, m.byte2, m.byte3)
+        && (!is_ping(m.byte2, m.byte3) || m.first.2 == request.first.2)
 }
 
-// The lowest place whose request the report is a reply to, or port::PLACES.
-pub fn first_answered(places: [Request; port::PLACES], m: Message) -> usize
-    ensures lowest { result ≡ first_at (answers m) places }
-    ensures searched { Searches (answers m) places result }
+// The lowest place whose request the report is a reply to.
+pub fn first_answered(places: [Request; port::PLACES], m: Message) -> Option<usize>
+    ensures lowest { result ≡ position (answers m) places }
+    ensures searched { Finds (answers m) places result }
 {
-    let mut place = 0;
-    while place < port::PLACES {
-        let request = places[place];
-        if is_answer(m, request) {
-            return place;
-        }
-        place += 1;
-    }
-    port::PLACES
+    places.iter().position(|request| is_answer(m, *request))
 }
 
 // Whether a ping with the report's bytes 2 and 3 waits.
 pub fn has_ping(port: Port, m: Message) -> bool
     ensures waits { result ≡ ping_waits port m }
 {
-    if is_ping(m.byte2, m.byte3) {
-        let places = port.places;
-        return port::first_match(places, m.byte2, m.byte3) < port::PLACES;
-    }
-    false
+    is_ping(m.byte2, m.byte3) && port::first_match(port.places, m.byte2, m.byte3).is_some()
 }

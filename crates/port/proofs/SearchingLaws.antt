@@ -14,7 +14,7 @@ use Rattle.report.proofs.ChoicesLaws.{by_case}
 use Rattle.port.specs.declared.Request.{Request}
 use Rattle.port.specs.Records.{request_in}
 use Rattle.port.specs.Places.{first_at}
-use Rattle.port.specs.Searching.{NoneBelow, Lowest, Searches, SearchesExactly}
+use Rattle.port.specs.Searching.{NoneBelow, Lowest, Searches, SearchesExactly, Finds}
 
 -- what is read of a place does not depend on what is read past the last
 in_place : (places : List Request) (i : ℕ) (d : Request) → i < length places → request_in places i ≡ get_or places i d
@@ -149,3 +149,33 @@ found_none test places e = go (ltb (first_at test places) (length places)) refl 
     go : (b : Bool) → ltb (first_at test places) (length places) ≡ b → ◌≡◌ {A = Option ℕ} None (cond b (Some (first_at test places)) None) → length places ≤ first_at test places
     go true h e = absurd (none-some _ e)
     go false h e = ltb-false _ _ h
+
+-- so what the library's search finds is what document 02 says
+pub finds : (test : Request → Bool) (places : List Request) {found : Option ℕ} → found ≡ position test places → Finds test places found
+finds test places {found} e =
+    record {
+      lowest = λ place. (λ q. at place (sym q ∙ e), λ h. is place found e h);
+      none = (λ q. all_fail test places (found_none test places (sym q ∙ e)), λ n. nothing found e n);
+    }
+  where
+    at : (place : ℕ) → Some place ≡ position test places → (place < length places) × Lowest test places place
+    at place q =
+        let f = found_some test places q in
+        (f.1, subst (Lowest test places) (sym f.0) (at_first test places (omega (arith, f.0, f.1))))
+
+    is : (place : ℕ) (found : Option ℕ) → found ≡ position test places → (place < length places) × Lowest test places place → found ≡ Some place
+    is place (Some q) z h = ap (λ (n : ℕ). Some n) ((found_some test places z).0 ∙ is_first test places h.0 h.1)
+    is place None z h =
+        let past = found_none test places z in
+        let at = is_first test places h.0 h.1 in
+        let inside = h.0 in
+        absurd (omega arith)
+
+    nothing : (found : Option ℕ) → found ≡ position test places → NoneBelow test places (length places) → found ≡ None
+    nothing (Some q) z n =
+        let f = found_some test places z in
+        let same = f.0 in
+        let inside = f.1 in
+        let past = none_first test places n in
+        absurd (omega arith)
+    nothing None z n = refl

@@ -16,6 +16,16 @@ is_found_law e h = lt-ltb _ _ (subst (λ (n : ℕ). n < place_count) e h)
 pub not_found : {place found : ℕ} → place ≡ found → place_count ≤ place → is_found found ≡ false
 not_found e h = le-ltb _ _ (subst (λ (n : ℕ). place_count ≤ n) e h)
 
+-- the program's search finds a place exactly where the rules' search does
+pub some_found : (test : Request → Bool) (places : List Request) → length places ≡ place_count → {found : Option ℕ} → found ≡ position test places → is_some found ≡ is_found (first_at test places)
+some_found test places placed {found} e = by found e
+  where
+    by : (found : Option ℕ) → found ≡ position test places → is_some found ≡ is_found (first_at test places)
+    by (Some place) q =
+        let f = found_some test places q in
+        sym (is_found_law f.0 (omega (arith, f.1)))
+    by None q = sym (not_found refl (omega (arith, found_none test places q)))
+
 -- no more requests wait than there are places
 pub few_waiting : (places : List Request) → count_waiting places ≤ length places
 unfolding sum_over
