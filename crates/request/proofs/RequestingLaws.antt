@@ -1,6 +1,6 @@
 -- Laws of a request at its port: what the program answers and stores is what the rule gives.
 use Prim.Native.Nat.{ℕ, ◌+◌, ◌%◌, ◌≤◌}
-use Rattle.std.specs.Prelude.{◌≡◌, true, false, not, length, leb}
+use Rattle.std.specs.Prelude.{◌≡◌, true, false, not, length, leb, Result}
 use Rattle.std.proofs.Common.{◌∙◌, mod-eq_of_lt, leb-true}
 use Rattle.std.proofs.Math.Path.{ap}
 use mathlib.Core.List.{List}
@@ -11,14 +11,13 @@ use Rattle.report.specs.declared.Refusal.TheVariants.{NoSuchPort, Forbidden, NoR
 use Rattle.report.specs.ReportContracts.{number_of}
 use Rattle.report.proofs.ChoicesLaws.{both, neither}
 use Rattle.report.specs.Ports.{is_port, in_range}
-use Rattle.frame.specs.declared.Written.{Written}
 use Rattle.frame.specs.Forbidden.{is_forbidden_frame}
 use Rattle.frame.specs.Writing as writing
 use Rattle.frame.specs.FrameContracts.{written_outcome}
+use Rattle.port.specs.declared.Called.{Called}
 use Rattle.port.specs.declared.Port.{Port}
 use Rattle.port.specs.declared.Request.{Request}
 use Rattle.port.specs.Waiting as waiting
-use Rattle.request.specs.declared.PortRequested.{PortRequested}
 use Rattle.request.specs.Requesting.{RequestAt, max_ticks, is_forbidden, waiting_request, refused_at, with_waiting, request_by, request_at}
 use Rattle.request.specs.RequestContracts.{checked_request, refused_with, requested_of}
 
@@ -35,15 +34,15 @@ module _ (p : Port) (device byte2 byte3 ticks : ℕ) (params : List ℕ) (offset
   rule = checked_request p device byte2 byte3 ticks params offset lent
 
   -- the program declines where the rule refuses
-  refuses : (r : PortRequested) {refusal : Refusal} → r ≡ refused_with p refusal → refused_at (number_of refusal) p lent ≡ rule → requested_of r lent ≡ checked_request p device byte2 byte3 ticks params offset lent
+  refuses : (r : Called (Result ℕ Refusal) Port) {refusal : Refusal} → r ≡ refused_with p refusal → refused_at (number_of refusal) p lent ≡ rule → requested_of r lent ≡ checked_request p device byte2 byte3 ticks params offset lent
   unfolding rule
-  refuses r e f = ap (λ (x : PortRequested). requested_of x lent) e ∙ f
+  refuses r e f = ap (λ (x : Called (Result ℕ Refusal) Port). requested_of x lent) e ∙ f
 
   no_port_law : is_port device ≡ false → refused_at (number_of NoSuchPort) p lent ≡ rule
   unfolding rule checked_request
   no_port_law port = simp port
 
-  pub ask_no_port : (r : PortRequested) → is_port device ≡ false → r ≡ refused_with p NoSuchPort → requested_of r lent ≡ checked_request p device byte2 byte3 ticks params offset lent
+  pub ask_no_port : (r : Called (Result ℕ Refusal) Port) → is_port device ≡ false → r ≡ refused_with p NoSuchPort → requested_of r lent ≡ checked_request p device byte2 byte3 ticks params offset lent
   ask_no_port r port e = refuses r e (no_port_law port)
 
   module _ (port : is_port device ≡ true) where
@@ -51,7 +50,7 @@ module _ (p : Port) (device byte2 byte3 ticks : ℕ) (params : List ℕ) (offset
     unfolding rule checked_request request_at
     forbade asked = simp (port, asked)
 
-    pub ask_forbidden : (r : PortRequested) → is_forbidden byte2 byte3 ticks params ≡ true → r ≡ refused_with p Forbidden → requested_of r lent ≡ checked_request p device byte2 byte3 ticks params offset lent
+    pub ask_forbidden : (r : Called (Result ℕ Refusal) Port) → is_forbidden byte2 byte3 ticks params ≡ true → r ≡ refused_with p Forbidden → requested_of r lent ≡ checked_request p device byte2 byte3 ticks params offset lent
     ask_forbidden r asked e = refuses r e (forbade asked)
 
     frame : List ℕ
@@ -66,7 +65,7 @@ module _ (p : Port) (device byte2 byte3 ticks : ℕ) (params : List ℕ) (offset
       unfolding rule checked_request request_at frame
       full room = simp (port, asked, ← sized, room)
 
-      pub ask_no_room : (r : PortRequested) → writing.fits_at (4 + length params) offset (length lent) ≡ false → r ≡ refused_with p NoRoom → requested_of r lent ≡ checked_request p device byte2 byte3 ticks params offset lent
+      pub ask_no_room : (r : Called (Result ℕ Refusal) Port) → writing.fits_at (4 + length params) offset (length lent) ≡ false → r ≡ refused_with p NoRoom → requested_of r lent ≡ checked_request p device byte2 byte3 ticks params offset lent
       ask_no_room r room e = refuses r e (full room)
 
       module _ (room : writing.fits_at (4 + length params) offset (length lent) ≡ true) where
@@ -75,7 +74,7 @@ module _ (p : Port) (device byte2 byte3 ticks : ℕ) (params : List ℕ) (offset
         unfolding rule checked_request request_at frame
         decided e = simp (port, asked, ← sized, room, e)
 
-        pub ask_refused : (r : PortRequested) {refusal : Refusal} → waiting.room_for p.places byte2 byte3 ≡ waiting.refused (number_of refusal) → r ≡ refused_with p refusal → requested_of r lent ≡ checked_request p device byte2 byte3 ticks params offset lent
+        pub ask_refused : (r : Called (Result ℕ Refusal) Port) {refusal : Refusal} → waiting.room_for p.places byte2 byte3 ≡ waiting.refused (number_of refusal) → r ≡ refused_with p refusal → requested_of r lent ≡ checked_request p device byte2 byte3 ticks params offset lent
         unfolding request_by
         ask_refused r e f = refuses r f (decided e)
 
@@ -83,7 +82,7 @@ module _ (p : Port) (device byte2 byte3 ticks : ℕ) (params : List ℕ) (offset
         unfolding writing.frame_at frame
         written = simp (← sized, room)
 
-        pub asks : {free : ℕ} {request : Request} {next : Port} (w : Written) {after : List ℕ} → waiting.room_for p.places byte2 byte3 ≡ waiting.at free → request ≡ waiting_request byte2 byte3 (ticks % 256) params → next ≡ with_waiting p free request → written_outcome w after ≡ writing.frame_at (writing.request_frame device byte2 byte3 params) offset lent → requested_of (record { answer = w; port = next }) after ≡ checked_request p device byte2 byte3 ticks params offset lent
+        pub asks : {free : ℕ} {request : Request} {next : Port} (w : Result ℕ Refusal) {after : List ℕ} → waiting.room_for p.places byte2 byte3 ≡ waiting.at free → request ≡ waiting_request byte2 byte3 (ticks % 256) params → next ≡ with_waiting p free request → written_outcome w after ≡ writing.frame_at (writing.request_frame device byte2 byte3 params) offset lent → requested_of (record { answer = w; next = next }) after ≡ checked_request p device byte2 byte3 ticks params offset lent
         unfolding rule request_by frame
         asks {free} {request} {next} w {after} r q n o =
             let q' : request ≡ waiting_request byte2 byte3 ticks params = q ∙ ap (λ (k : ℕ). waiting_request byte2 byte3 k params) (ticks_kept byte2 byte3 ticks params asked) in

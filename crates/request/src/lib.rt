@@ -5,36 +5,20 @@ ghost use Rattle.std.specs.Prelude.{◌≡◌, ◌%◌};
 ghost use Rattle.request.specs.Requesting.{is_forbidden, waiting_request};
 ghost use Rattle.request.specs.RequestContracts.{checked_request, refused_with, requested_of};
 
-use frame::Written;
-use port::waiting::Admission;
-use port::{FirstParameters, Port, Request, waiting};
+use port::{Called, FirstParameters, Port, Request, waiting};
 use report::{Device, FeatureIndex, Refusal};
 
 const MAX_TICKS: u16 = 255;
-
-// What a request gives at its port: its answer, and the port after it.
-#[derive(Clone, Copy)]
-pub struct PortRequested {
-    pub answer: Written,
-    pub port: Port,
-}
 
 // 01, Number 9.
 fn is_forbidden(byte2: FeatureIndex, byte3: u8, ticks: u16, params: &[u8]) -> bool
     ensures { result ≡ is_forbidden byte2.0 byte3 ticks params.now }
 {
-    if frame::is_forbidden_frame(byte2, byte3, params) {
-        return true;
-    }
-    if 1 <= ticks {
-        if ticks <= MAX_TICKS {
-            return false;
-        }
-    }
-    true
+    frame::is_forbidden_frame(byte2, byte3, params) || !(1..=MAX_TICKS).contains(&ticks)
 }
 
 // The request as it waits.
+#[tactic(auto, unfolding(crate::specs::Requesting::waiting_request))]
 fn waiting_request(byte2: FeatureIndex, byte3: u8, ticks: u16, params: &[u8]) -> Request
     ensures { result ≡ waiting_request byte2.0 byte3 (ticks % 256) params.now }
 {
@@ -51,12 +35,12 @@ fn waiting_request(byte2: FeatureIndex, byte3: u8, ticks: u16, params: &[u8]) ->
 }
 
 // A refusal leaves the port as it was.
-fn refuse(port: Port, refusal: Refusal) -> PortRequested
+fn refuse(port: Port, refusal: Refusal) -> Called<Result<usize, Refusal>, Port>
     ensures { result ≡ refused_with port refusal }
 {
-    PortRequested {
-        answer: Written::Refused(refusal),
-        port,
+    Called {
+        answer: Err(refusal),
+        next: port,
     }
 }
 
@@ -70,7 +54,7 @@ pub fn request_at(
     params: &[u8],
     buffer: &mut [u8],
     offset: usize,
-) -> PortRequested
+) -> Called<Result<usize, Refusal>, Port>
     ensures outcome { requested_of result buffer.new ≡ checked_request port device.0 byte2.0 byte3 ticks params.now offset buffer.old }
 {
     if !report::is_port(device) {
@@ -82,14 +66,15 @@ pub fn request_at(
     if !frame::fits(frame::HEAD + params.len(), offset, buffer.len()) {
         return refuse(port, Refusal::NoRoom);
     }
-    let places = port.places;
-    match waiting::room_for(places, byte2, byte3) {
-        Admission::Refused(refusal) => refuse(port, refusal),
-        Admission::At(place) => {
+    match waiting::room_for(port.places, byte2, byte3) {
+        Err(refusal) => refuse(port, refusal),
+        Ok(place) => {
             let request = waiting_request(byte2, byte3, ticks, params);
-            let next = port::with_places(port, port::with_request(places, place, request));
-            let answer = frame::write_request(device, byte2, byte3, params, buffer, offset);
-            PortRequested { answer, port: next }
+            let places = port::with_request(port.places, place, request);
+            Called {
+                answer: frame::write_request(device, byte2, byte3, params, buffer, offset),
+                next: port::with_places(port, places),
+            }
         }
     }
 }

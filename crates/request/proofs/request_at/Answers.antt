@@ -20,12 +20,12 @@ returns-then-not-fits c = record {
   outcome = ask_no_room _ _ _ _ _ _ _ _ (sym c.is_port.ensures.named ∙ c.if-not-is_port.false) (sym c.is_forbidden.ensures ∙ c.if-is_forbidden.false) _ (sym c.fits.ensures.fitting ∙ c.if-not-fits.true) c.refuse-then-not-fits.ensures;
 }
 
-pub returns-in-Refused : goal.returns-in-Refused
-returns-in-Refused c = record {
-  outcome = ask_refused _ _ _ _ _ _ _ _ (sym c.is_port.ensures.named ∙ c.if-not-is_port.false) (sym c.is_forbidden.ensures ∙ c.if-is_forbidden.false) (sym c.fits.ensures.fitting ∙ c.if-not-fits.false) _ (sym c.room_for.ensures.admission ∙ ap room_of c.in-Refused.is) c.refuse-in-Refused.ensures;
+pub returns-in-Err : goal.returns-in-Err
+returns-in-Err c = record {
+  outcome = ask_refused _ _ _ _ _ _ _ _ (sym c.is_port.ensures.named ∙ c.if-not-is_port.false) (sym c.is_forbidden.ensures ∙ c.if-is_forbidden.false) (sym c.fits.ensures.fitting ∙ c.if-not-fits.false) _ (sym c.room_for.ensures.admission ∙ ap room_of c.in-Err.is) c.refuse-in-Err.ensures;
 }
 
-pub returns-in-At : goal.returns-in-At
-returns-in-At c = record {
-  outcome = asks _ _ _ _ _ _ _ _ (sym c.is_port.ensures.named ∙ c.if-not-is_port.false) (sym c.is_forbidden.ensures ∙ c.if-is_forbidden.false) (sym c.fits.ensures.fitting ∙ c.if-not-fits.false) c.write_request-answer.result (sym c.room_for.ensures.admission ∙ ap room_of c.in-At.is) c.waiting_request-request.ensures (c.with_places-next.ensures.changed ∙ ap (with_places _) c.with_request.ensures.stored) c.write_request-answer.ensures.outcome;
+pub returns-in-Ok : goal.returns-in-Ok
+returns-in-Ok c = record {
+  outcome = asks _ _ _ _ _ _ _ _ (sym c.is_port.ensures.named ∙ c.if-not-is_port.false) (sym c.is_forbidden.ensures ∙ c.if-is_forbidden.false) (sym c.fits.ensures.fitting ∙ c.if-not-fits.false) c.write_request.result (sym c.room_for.ensures.admission ∙ ap room_of c.in-Ok.is) c.waiting_request-request.ensures (c.with_places.ensures.changed ∙ ap (with_places _) c.with_request-places.ensures.stored) c.write_request.ensures.outcome;
 }
