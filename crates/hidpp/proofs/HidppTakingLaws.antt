@@ -1,5 +1,5 @@
 -- Laws of taking a HID++ report: the parts that a program makes one by one are those of the rules.
-use Rattle.std.specs.Prelude.{ℕ, ◌<◌, ◌≤◌, ◌≡◌, refl, true, false, ◌&&◌, leb, eqb}
+use Rattle.std.specs.Prelude.{ℕ, ◌<◌, ◌≤◌, ◌≡◌, refl, true, false, ◌&&◌, leb, eqb, Ok}
 use Rattle.std.proofs.Common.{◌∙◌, arith}
 use borrow.Author.Tests.{lt-ltb, le-ltb, le-leb, lt-leb}
 use Rattle.report.proofs.ChoicesLaws.{by_case}
@@ -8,6 +8,7 @@ use Rattle.report.specs.Sizes.{software_id, is_feature}
 use Rattle.port.specs.declared.Port.{Port}
 use Rattle.port.specs.declared.answer.About as program
 use Rattle.port.specs.declared.answer.ErrorKind.{ErrorKind}
+use Rattle.port.specs.declared.answer.ErrorKind.TheVariants.{Hidpp1, Hidpp2}
 use Rattle.port.specs.declared.answer.Taken.TheVariants.{Failed}
 use Rattle.port.specs.Records.{place_count}
 use Rattle.port.proofs.WaitingLaws.{is_found_law}
@@ -24,7 +25,12 @@ use Rattle.hidpp.specs.HidppTaking.{about, carried, unchanged, is_error, named2,
 pub carry : (answer : About → Answer) {x y : About} {p q : Port} → x ≡ y → p ≡ q → ◌≡◌ {A = Result} (record { answer = answer x; port = p }) (record { answer = answer y; port = q })
 carry answer e f = λ i. record { answer = answer (e i); port = f i }
 
-pub error_ends : (p : Port) (m : Message) {place : ℕ} (a : program.About) (kind : ErrorKind) {ended next : Port} → error_fits m ≡ true → place ≡ waiting_at p (named2 m) (named3 m) → place < place_count → about_of a ≡ about m (named2 m) (named3 m) → kind_number kind ≡ kind_of m.byte2.0 → ended ≡ ended_at p place → next ≡ after_error ended m.byte2.0 (named2 m) (named3 m) (code m) → result_of (record { answer = Failed a (code m) kind; port = next }) ≡ error_rule p m
+-- a kind by its own number
+pub kind_itself : (kind : ErrorKind) → kind_number kind ≡ kind_of (kind_number kind)
+kind_itself Hidpp1 = refl
+kind_itself Hidpp2 = refl
+
+pub error_ends : (p : Port) (m : Message) {place : ℕ} (a : program.About) (kind : ErrorKind) {ended next : Port} → error_fits m ≡ true → place ≡ waiting_at p (named2 m) (named3 m) → place < place_count → about_of a ≡ about m (named2 m) (named3 m) → kind_number kind ≡ kind_of m.byte2.0 → ended ≡ ended_at p place → next ≡ after_error ended m.byte2.0 (named2 m) (named3 m) (code m) → result_of (record { answer = Ok (Failed a (code m) kind); next = next }) ≡ error_rule p m
 unfolding error_rule
 error_ends p m a kind fits at found carries k e n =
     simp (fits, is_found_law at found) (simp (n, e, at) (λ i. result (carries i) (k i)))

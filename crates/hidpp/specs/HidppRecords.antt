@@ -1,12 +1,10 @@
 -- Document 01, "Taking a HID++ report": how records change.
-use Rattle.std.specs.Prelude.{ℕ, Bool, true, cond, not, ◌&&◌, set, leb, ltb, eqb}
+use Rattle.std.specs.Prelude.{ℕ, Bool, true, cond, not, ◌&&◌, set, leb, ltb, eqb, Some}
 use Rattle.report.specs.Sizes.{function, joined2}
 use Rattle.port.specs.declared.Port.{Port}
 use Rattle.port.specs.declared.Request.{Request}
 use Rattle.port.specs.declared.FirstParameters.{FirstParameters}
 use Rattle.report.specs.declared.FeatureIndex.{FeatureIndex}
-use Rattle.port.specs.declared.Version.TheVariants as versions
-use Rattle.port.specs.declared.Battery.TheVariants as batteries
 use Rattle.port.specs.Records.{feature_count, max_index, battery_status, wireless_status, slot_of, feature_at, with_version, with_battery, with_features, with_link}
 use Rattle.port.specs.Answers.{error1}
 use Rattle.matching.specs.declared.Message.{Message}
@@ -44,7 +42,7 @@ with_found_feature p r index =
 unfoldable pub with_battery_from : Port → FirstParameters → Port
 with_battery_from p first =
     cond (leb first.0 max_level && leb first.1 max_level)
-    (with_battery p (batteries.Known first.0 first.1 first.2))
+    (with_battery p (Some (record { level = first.0; next = first.1; status = first.2 })))
     p
 
 -- a reply to function 0 of the battery's feature
@@ -54,7 +52,7 @@ is_battery_reply p m = holds p battery_status m.byte2.0 && eqb (function m.byte3
 -- a reply m to the request r
 unfoldable pub after_reply : Port → Message → Request → Port
 after_reply p m r =
-    cond (is_ping m.byte2.0 m.byte3) (with_version p (versions.Known m.first.0 m.first.1))
+    cond (is_ping m.byte2.0 m.byte3) (with_version p (Some (record { major = m.first.0; minor = m.first.1 })))
     (cond (is_get_feature m.byte2.0 m.byte3) (with_found_feature p r m.first.0)
     (cond (is_battery_reply p m) (with_battery_from p m.first) p))
 
@@ -65,7 +63,7 @@ is_version1 kind named2 named3 code = eqb kind error1 && (eqb code 1 && is_ping 
 -- sets 1.0
 unfoldable pub after_error : Port → ℕ → ℕ → ℕ → ℕ → Port
 after_error p kind named2 named3 code =
-    cond (is_version1 kind named2 named3 code) (with_version p (versions.Known 1 0)) p
+    cond (is_version1 kind named2 named3 code) (with_version p (Some (record { major = 1; minor = 0 }))) p
 
 -- event 0 of a known feature
 abbrev pub is_event0 : Port → ℕ → Message → Bool

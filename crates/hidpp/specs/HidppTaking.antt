@@ -1,10 +1,9 @@
 -- Document 01, "Taking a HID++ report", with document 02, Ask 2, at the port that the report names.
-use Rattle.std.specs.Prelude.{ℕ, Bool, false, cond, ◌&&◌, ◌||◌, eqb}
+use Rattle.std.specs.Prelude.{ℕ, Bool, false, cond, ◌&&◌, ◌||◌, eqb, Option, Some, None}
 use Rattle.report.specs.Ports.{in_range}
 use Rattle.report.specs.Sizes.{hidpp_start, software_id, is_feature}
 use Rattle.port.specs.declared.Port.{Port}
 use Rattle.port.specs.declared.Version.{Version}
-use Rattle.port.specs.declared.Version.TheVariants.{Unknown, Known}
 use Rattle.port.specs.Records.{request_in}
 use Rattle.port.specs.Waiting.{waiting_at, is_found, ended_at}
 use Rattle.port.specs.Answers.{About, error1, error2, Answer, reply, stray, plain, event, failed, Result}
@@ -62,9 +61,9 @@ reply_rule p m place =
     record { answer = carried (reply 0) m; port = after_reply (ended_at p place) m (request_in p.places place) }
 
 -- version major 1
-abbrev pub is_major1 : Version → Bool
-is_major1 Unknown = false
-is_major1 (Known major minor) = eqb major 1
+abbrev pub is_major1 : Option Version → Bool
+is_major1 None = false
+is_major1 (Some version) = eqb version.major 1
 
 -- 4. byte 2 is a feature index: a plain notice from a device of version 1; from others an event where the software id is 0, and stray where it is not
 unfoldable pub feature_rule : Port → Message → Result

@@ -1,2 +1,3 @@
 pub mod HidppRecords
 pub mod HidppTaking
+pub mod HidppContracts

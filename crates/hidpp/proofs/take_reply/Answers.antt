@@ -6,4 +6,4 @@ use Rattle.hidpp.proofs.take_reply.Goals as goal
 
 pub returns : goal.returns
 unfolding reply_rule
-returns c = carry (reply 0) c.about-about.ensures (cc (c.after_reply.ensures, c.request_in-request.ensures.found, c.end_at-ended.ensures.ended))
+returns c = carry (reply 0) c.about_itself-about.ensures (cc (c.after_reply.ensures, c.request_in-request.ensures.found, c.end_at.ensures.ended))

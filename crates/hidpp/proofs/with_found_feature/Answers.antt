@@ -1,17 +1,18 @@
 -- `hidpp::with_found_feature` meets its contract.
-use mathlib.Core.Path.{◌∙◌, ap, subst}
-use Prim.Native.Nat.{ℕ, ◌<◌, ◌≤◌}
-use borrow.Author.Tests.{lt-ltb, le-ltb}
-use Rattle.port.specs.Records.{feature_count, slot_of}
-use Rattle.hidpp.specs.HidppRecords.{with_found_feature}
+use Rattle.std.proofs.Common.{ap, ◌∙◌, le-ltb, lt-ltb, subst, ◌<◌, ℕ}
+use Rattle.port.specs.Records.{feature_count}
+use Rattle.hidpp.specs.HidppContracts.{slot_found}
+use Rattle.hidpp.specs.HidppRecords.{with_found_feature, asked_feature}
+use Rattle.hidpp.proofs.FoundLaws.{slot_some, slot_none}
 use Rattle.hidpp.proofs.with_found_feature.Goals as goal
 
-pub returns-then-slot-lt-FEATURES : goal.returns-then-slot-lt-FEATURES
+pub returns-in_default : goal.returns-in_default
 unfolding with_found_feature
-returns-then-slot-lt-FEATURES c = let known = c.slot_of-slot.ensures ∙ ap slot_of c.join2.ensures.joined in
-    simp (lt-ltb _ _ (subst (λ (n : ℕ). n < feature_count) known c.if-slot-lt-FEATURES.true)) (cc (c.with_features.ensures.changed, c.with_feature-next.ensures.stored, c.as_index.ensures))
+returns-in_default c =
+    simp (le-ltb _ _ (slot_none (asked_feature c.args.request) (c.in_default.ensures ∙ ap slot_found c.join2.ensures.joined)))
 
 pub returns : goal.returns
 unfolding with_found_feature
-returns c = let known = c.slot_of-slot.ensures ∙ ap slot_of c.join2.ensures.joined in
-    simp (le-ltb _ _ (subst (λ (n : ℕ). feature_count ≤ n) known c.if-slot-lt-FEATURES.false))
+returns c =
+    let slot = slot_some (asked_feature c.args.request) (c.in-Some.ensures ∙ ap slot_found c.join2.ensures.joined) in
+    simp (lt-ltb _ _ (subst (λ (n : ℕ). n < feature_count) slot.0 slot.1)) (cc (slot.0, c.with_features.ensures.changed, c.with_feature-features.ensures.stored, c.as_index.ensures))
