@@ -1,17 +1,14 @@
 // The port listing: paired devices as lines of text, written at an offset of a lent buffer.
 #![tactic(auto)]
 
-ghost use Rattle.std.specs.Prelude.{◌≡◌, ◌*◌};
-ghost use Rattle.text.specs.Putting.{Puts};
-ghost use Rattle.report.specs.Ports.{device_count};
-ghost use Rattle.listing.specs.Listing.{device_line, device_text, line_most, lines, listing_rule};
+ghost use Rattle.std.specs.Prelude.{◌≡◌};
+ghost use Rattle.text.specs.Putting.{Outputs};
+ghost use Rattle.listing.specs.Listing.{device_line, line_most, listing_rule};
 ghost use Rattle.frame.specs.FrameContracts.{written_outcome};
 
-use frame::Written;
 use port::Port;
-
-// Devices 1 to 6 have positions 0 to 5 among the ports; the receiver comes last.
-const DEVICES: usize = report::DEVICES as usize;
+use report::Refusal;
+use text::Out;
 
 // The header, and the longest line of a device: the fields, and the byte after each.
 const FIELDS: usize = 7;
@@ -28,65 +25,42 @@ const LINE: usize = text::BYTE_MOST
     + FIELDS;
 
 // Room for every listing.
-const ROOM: usize = HEADER + LINE * DEVICES;
+const ROOM: usize = HEADER + LINE * report::DEVICES as usize;
 
 // The line of one device.
-fn put_line(buffer: &mut [u8], at: usize, port: Port, number: u8) -> usize
-    ensures { Puts line_most (device_line number port) at buffer.old result buffer.new }
+fn put_line(out: &mut Out, number: u8, port: &Port)
+    ensures { Outputs line_most (device_line number port.now) out.old out.new }
 {
-    let version = port.version;
-    let battery = port.battery;
-    let places = port.places;
-    let at = text::put_small(buffer, at, number);
-    let at = text::put_byte(buffer, at, text::TAB);
-    let at = text::put_hex(buffer, at, text::DIGITS_16, port.wpid as usize);
-    let at = text::put_byte(buffer, at, text::TAB);
-    let at = text::put_hex(buffer, at, text::DIGITS_32, port.reports as usize);
-    let at = text::put_byte(buffer, at, text::TAB);
-    let at = text::put_link(buffer, at, port.up);
-    let at = text::put_byte(buffer, at, text::TAB);
-    let at = text::put_version(buffer, at, version);
-    let at = text::put_byte(buffer, at, text::TAB);
-    let at = text::put_battery(buffer, at, battery);
-    let at = text::put_byte(buffer, at, text::TAB);
-    let at = text::put_small(buffer, at, port::count_waiting(places));
-    text::put_byte(buffer, at, text::NEWLINE)
-}
-
-// The line of a paired device, and nothing of an unpaired one.
-fn put_device(buffer: &mut [u8], at: usize, port: Port, number: u8) -> usize
-    ensures { Puts line_most (device_text number port) at buffer.old result buffer.new }
-{
-    if port.paired {
-        return put_line(buffer, at, port, number);
-    }
-    at
-}
-
-// The lines of devices 1 to 6.
-fn put_lines(buffer: &mut [u8], at: usize, ports: [Port; port::PORTS]) -> usize
-    ensures { Puts (line_most * device_count) (lines ports) at buffer.old result buffer.new }
-{
-    let mut next = at;
-    let mut i = 0;
-    while i < DEVICES {
-        let port = ports[i];
-        next = put_device(buffer, next, port, (i + 1) as u8);
-        i += 1;
-    }
-    next
+    out.small(number);
+    out.byte(text::TAB);
+    out.hex(text::DIGITS_16, port.wpid as usize);
+    out.byte(text::TAB);
+    out.hex(text::DIGITS_32, port.reports as usize);
+    out.byte(text::TAB);
+    out.link(port.up);
+    out.byte(text::TAB);
+    out.version(port.version);
+    out.byte(text::TAB);
+    out.battery(port.battery);
+    out.byte(text::TAB);
+    out.small(port::count_waiting(port.places));
+    out.byte(text::NEWLINE)
 }
 
 // Writes the listing of the paired devices among the ports: refusal 10.
-pub fn write_listing(ports: [Port; port::PORTS], buffer: &mut [u8], offset: usize) -> Written
+pub fn write_listing(
+    ports: [Port; port::PORTS],
+    buffer: &mut [u8],
+    offset: usize,
+) -> Result<usize, Refusal>
     ensures written { written_outcome result buffer.new ≡ listing_rule ports offset buffer.old }
 {
-    let mut bytes = [0; ROOM];
-    let size = text::put_word(
-        &mut bytes,
-        0,
+    text::write_paired(
+        &mut [0; ROOM],
         b"port\twpid\treports\tlink\tversion\tbattery\twaiting\n",
-    );
-    let size = put_lines(&mut bytes, size, ports);
-    text::write_at(&bytes[..size], buffer, offset)
+        &ports,
+        put_line,
+        buffer,
+        offset,
+    )
 }

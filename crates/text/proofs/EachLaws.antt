@@ -5,7 +5,8 @@ use Rattle.std.proofs.Math.Path.{sym, ap}
 use Rattle.std.proofs.Common.{◌∙◌, subst, add-zero, mul-suc, le_of_suc-le-suc, not-suc-le-zero, add-one, take_all}
 use mathlib.Core.List.{List, [], ◌∷◌, ◌++◌, append_assoc, append-nil}
 use native.Mathlib.Omega.{arith}
-use Rattle.text.specs.Putting.{Puts}
+use Rattle.text.specs.Putting.{Puts, Outputs}
+use Rattle.text.specs.declared.Out.{Out}
 use Rattle.text.proofs.PuttingLaws.{nothing_put, same_text, at_most, then_put}
 use Rattle.text.specs.Texts.{each_from, each}
 
@@ -53,6 +54,26 @@ module _ {A : Type 0} {text : ℕ → A → List ℕ} {most count : ℕ} {xs : L
 
   pub each_done : length xs ≡ count → count ≤ i → Puts (most * count) (each text xs) at b₀ next b
   each_done all out = same_text (ap (each_from text 0) (take_all count xs (omega arith))) (each_counted out)
+
+-- the same of a lent buffer with its offset
+pub record Outputting {A : Type 0} (text : ℕ → A → List ℕ) (most count : ℕ) (xs : List A) (o o₁ : Out) (i : ℕ) : Type 0 where
+  pub state : Putting text most count xs o.at o.buffer.now o₁.at o₁.buffer.now i
+  pub same : o.buffer.ghost_name ≡ o₁.buffer.ghost_name
+
+pub out_begun : {A : Type 0} (text : ℕ → A → List ℕ) (most count : ℕ) (xs : List A) (o : Out) → Outputting text most count xs o o 0
+out_begun text most count xs o =
+    record { state = each_begun text most count xs o.at o.buffer.now; same = refl }
+
+module _ {A : Type 0} {text : ℕ → A → List ℕ} {most count : ℕ} {xs : List A} {o o₁ : Out} {i : ℕ} (p : Outputting text most count xs o o₁ i) where
+  pub out_each : {o₂ : Out} {x : A} (d : A) → i < count → i < length xs → x ≡ get_or xs i d → Outputs most (text i x) o₁ o₂ → Outputting text most count xs o o₂ (i + 1)
+  out_each {o₂} d more inside is q =
+      record {
+        state = each_put p.state d more inside (same_text (ap (text i) is) q.puts);
+        same = p.same ∙ q.same;
+      }
+
+  pub out_done : length xs ≡ count → count ≤ i → Outputs (most * count) (each text xs) o o₁
+  out_done all out = record { puts = each_done p.state all out; same = p.same }
 
 -- a word is put byte by byte
 abbrev pub letter : ℕ → ℕ → List ℕ

@@ -4,3 +4,4 @@ pub mod EachLaws
 pub mod PutDigitsLaws
 pub mod TextExamples
 pub mod WritingTextLaws
+pub mod PairedLaws

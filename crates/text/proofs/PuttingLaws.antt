@@ -1,5 +1,5 @@
 -- Laws of putting text: nothing, one byte, one text after another, and a whole text or nothing.
-use Rattle.std.specs.Prelude.{ℕ, zero, suc, ◌+◌, ◌-◌, ◌≤◌, ◌<◌, ◌≡◌, refl, Bool, false, List, [], ◌∷◌, ◌++◌, length, take, drop, set}
+use Rattle.std.specs.Prelude.{ℕ, zero, suc, ◌+◌, ◌-◌, min, ◌≤◌, ◌<◌, ◌≡◌, refl, Bool, false, List, [], ◌∷◌, ◌++◌, length, take, drop, set}
 use Rattle.std.proofs.Math.Path.{sym}
 use Rattle.std.proofs.Common.{◌∙◌, ap, subst, append_assoc, add-zero, add_assoc, le_refl, add-one, arith, length-append, length-take, length-drop, take-append-drop, take_all, take_at, drop-drop, length-take-le, leb-true, le-leb}
 use Rattle.std.proofs.Math.Bool.{true}
@@ -7,7 +7,8 @@ use Rattle.std.proofs.Math.Decide.{dec_le}
 use Rattle.std.proofs.Math.Seq.{take-nil, drop-append-add}
 use Rattle.std.proofs.lemmas.List.{set_split}
 use Rattle.frame.specs.Writing.{fits_at, pasted}
-use Rattle.text.specs.Putting.{Filled, filled, fitting, put_rule, Puts, whole_rule}
+use Rattle.text.specs.Putting.{Filled, filled, fitting, put_rule, Puts, whole_rule, Outputs, OutputsWhole}
+use Rattle.text.specs.declared.Out.{Out}
 
 -- no text leaves all as it was
 pasted_nothing : (at : ℕ) (b : List ℕ) → pasted [] at b ≡ b
@@ -37,6 +38,28 @@ whole text at b h = pasted_part text text at b (take_all (length b - at) text (o
 pub one_byte : (x at : ℕ) (b : List ℕ) → at < length b → filled (at + 1) (set b at x) ≡ put_rule (x ∷ []) at b
 one_byte x at b h =
     sym (whole (x ∷ []) at b (omega arith) ∙ ap (λ (n : ℕ). filled (at + 1) (take at b ++ (x ∷ drop n b))) (add-one at) ∙ ap (filled (at + 1)) (sym (set_split b at x h)))
+
+-- what a copy to the part from an offset to another leaves
+pub copied : (at end : ℕ) (b part : List ℕ) → end ≡ at + length part → take at b ++ (part ++ drop (end - at) (drop at b)) ≡ pasted part at b
+copied at end b part e =
+    let size : at + (end - at) ≡ at + length part = omega arith in
+    ap (λ (l : List ℕ). take at b ++ (part ++ l)) (drop-drop (end - at) at b ∙ ap (λ (k : ℕ). drop k b) size)
+
+-- so what fits of a word is copied
+pub word_copied : (word : List ℕ) (at size : ℕ) (b part : List ℕ) → size ≡ min (length word) (length b - at) → part ≡ take size word → filled (at + size) (take at b ++ (part ++ drop (at + size - at) (drop at b))) ≡ put_rule word at b
+word_copied word at size b part least so =
+    let sized : length (take size word) ≡ size = length-take-le size word (omega arith) in
+    let end : at + size ≡ at + length (take size word) = ap (λ (k : ℕ). at + k) (sym sized) in
+    ap (λ (l : List ℕ). filled (at + size) (take at b ++ (l ++ drop (at + size - at) (drop at b)))) so
+    ∙ ap (filled (at + size)) (copied at (at + size) b (take size word) end)
+    ∙ ap (λ (k : ℕ). filled k (pasted (take size word) at b)) end
+    ∙ sym (pasted_part word (take size word) at b (by (dec_le (length word) (length b - at))))
+  where
+    by : Dec (length word ≤ length b - at) → fitting word at b ≡ take size word
+    by (yes p) = take_all (length b - at) word p ∙ sym (take_all size word (omega arith))
+    by (no p) =
+        let e : length b - at ≡ size = omega arith in
+        ap (λ (k : ℕ). take k word) e
 
 take_append : (n : ℕ) (s t : List ℕ) → take n (s ++ t) ≡ take n s ++ take (n - length s) t
 take_append zero s t = let e : 0 - length s ≡ 0 = omega arith in ap (λ (k : ℕ). take k t) (sym e)
@@ -161,3 +184,31 @@ nothing_whole at b = by (fits_at 0 at (length b)) refl
     by : (fits : Bool) → fits ≡ fits_at 0 at (length b) → filled at b ≡ whole_rule 0 [] at b
     by true test = put_with_room (nothing_put at b) test refl
     by false test = put_without_room 0 [] at b test refl
+
+-- the same of a lent buffer with its offset
+pub nothing_out : (o : Out) → Outputs 0 [] o o
+nothing_out o = record { puts = nothing_put o.at o.buffer.now; same = refl }
+
+module _ {o o₁ : Out} where
+  pub out_at_most : {m : ℕ} {text : List ℕ} (most : ℕ) → m ≤ most → Outputs m text o o₁ → Outputs most text o o₁
+  out_at_most most h p = record { puts = at_most most h p.puts; same = p.same }
+
+  pub same_out : {m : ℕ} {s t : List ℕ} → s ≡ t → Outputs m s o o₁ → Outputs m t o o₁
+  same_out e p = record { puts = same_text e p.puts; same = p.same }
+
+  pub then_out : {m k : ℕ} {s t : List ℕ} {o₂ : Out} → Outputs m s o o₁ → Outputs k t o₁ o₂ → Outputs (m + k) (s ++ t) o o₂
+  then_out p q = record { puts = then_put p.puts q.puts; same = p.same ∙ q.same }
+
+  -- where the loan ends, the buffer that was lent is what was put in it
+  pub put_back : {m : ℕ} {text : List ℕ} {b₁ : List ℕ} → Outputs m text o o₁ → (o.buffer.ghost_name ≡ o₁.buffer.ghost_name → b₁ ≡ o₁.buffer.now) → Puts m text o.at o.buffer.now o₁.at b₁
+  put_back {m} {text} p back = subst (λ (l : List ℕ). Puts m text o.at o.buffer.now o₁.at l) (sym (back p.same)) p.puts
+
+  pub whole_back : {most : ℕ} {text : List ℕ} {b₁ : List ℕ} → OutputsWhole most text o o₁ → (o.buffer.ghost_name ≡ o₁.buffer.ghost_name → b₁ ≡ o₁.buffer.now) → filled o₁.at b₁ ≡ whole_rule most text o.at o.buffer.now
+  whole_back p back = ap (filled o₁.at) (back p.same) ∙ p.whole
+
+  pub out_with_room : {most : ℕ} {text : List ℕ} {fits : Bool} → Outputs most text o o₁ → fits ≡ fits_at most o.at (length o.buffer.now) → fits ≡ true → OutputsWhole most text o o₁
+  out_with_room p test so = record { whole = put_with_room p.puts test so; same = p.same }
+
+pub out_without_room : {fits : Bool} (most : ℕ) (text : List ℕ) (o : Out) → fits ≡ fits_at most o.at (length o.buffer.now) → fits ≡ false → OutputsWhole most text o o
+out_without_room most text o test so =
+    record { whole = put_without_room most text o.at o.buffer.now test so; same = refl }

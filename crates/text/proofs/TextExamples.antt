@@ -1,6 +1,5 @@
 -- Numbers and serials as text, worked out. The first two are in document 01's listing.
-use Rattle.std.specs.Prelude.{◌≡◌, refl}
-use Rattle.port.specs.declared.Serial.TheVariants as serials
+use Rattle.std.specs.Prelude.{◌≡◌, refl, None, Some}
 use Rattle.text.specs.Words.{ascii, digit, hex, decimal, decimal_in}
 use Rattle.text.specs.Texts.{serial_text}
 
@@ -28,10 +27,10 @@ most : decimal 65535 ≡ ascii "65535"
 unfolding decimal decimal_in digit
 most = refl
 
-serial : serial_text (serials.Known 0x0A1B2C3D) ≡ ascii "0A1B2C3D"
+serial : serial_text (Some 0x0A1B2C3D) ≡ ascii "0A1B2C3D"
 unfolding serial_text hex digit
 serial = refl
 
-no_serial_law : serial_text serials.Unknown ≡ ascii "-"
+no_serial_law : serial_text None ≡ ascii "-"
 unfolding serial_text
 no_serial_law = refl

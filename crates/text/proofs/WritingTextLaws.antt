@@ -4,7 +4,7 @@ use Rattle.std.proofs.Common.{sym, ◌∙◌, ap, arith, length-take, length-dro
 use Rattle.frame.specs.Writing.{WriteOutcome, wrote, fits_at, frame_at}
 use Rattle.frame.proofs.WritingLaws.{placed}
 use Rattle.text.specs.Putting.{Filled, Puts}
-use Rattle.text.proofs.PuttingLaws.{kept_length, whole_put}
+use Rattle.text.proofs.PuttingLaws.{copied, kept_length, whole_put}
 
 -- a text put at the front of the part from its offset on is at its offset in the whole
 pub put_placed : {next : ℕ} {ys : List ℕ} (text b : List ℕ) (offset : ℕ) → fits_at (length text) offset (length b) ≡ true → Puts (length text) text 0 (take (length b - offset) (drop offset b)) next ys → ◌≡◌ {A = WriteOutcome} (record { answer = wrote (length text); lent = take offset b ++ (ys ++ drop (length b - offset) (drop offset b)) }) (frame_at text offset b)
@@ -12,6 +12,15 @@ put_placed {next} {ys} text b offset fits p =
     let room : offset + length text ≤ length b = leb-true _ _ fits in
     let part : 0 + length text ≤ length (take (length b - offset) (drop offset b)) = omega (arith, length-take (length b - offset) (drop offset b), length-drop offset b) in
     placed text b ys offset (length text) refl fits (ap (λ (f : Filled). f.lent) (whole_put p part))
+
+-- a text copied to its offset
+pub copy_placed : (text b part : List ℕ) (offset : ℕ) → fits_at (length text) offset (length b) ≡ true → part ≡ text → ◌≡◌ {A = WriteOutcome} (record { answer = wrote (length text); lent = take offset b ++ (part ++ drop (offset + length text - offset) (drop offset b)) }) (frame_at text offset b)
+unfolding frame_at
+copy_placed text b part offset fits so =
+    simp fits (ap written (ap (λ (l : List ℕ). take offset b ++ (l ++ drop (offset + length text - offset) (drop offset b))) so ∙ copied offset (offset + length text) b text refl))
+  where
+    written : List ℕ → WriteOutcome
+    written lent = record { answer = wrote (length text); lent = lent }
 
 -- an array with room for the text holds it at its front, up to the next offset
 module _ {most : ℕ} {text b : List ℕ} {next : ℕ} {b₁ : List ℕ} (p : Puts most text 0 b next b₁) (room : 0 + most ≤ length b) where

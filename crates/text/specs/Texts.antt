@@ -1,13 +1,9 @@
 -- Document 01, "Port listing", and document 02, Asks 1 (the serial) and 3 (the store): texts one after another, lines of fields, the lines of paired devices, and the text of a link, of a version, of a battery and of a serial.
-use Rattle.std.specs.Prelude.{ℕ, suc, ◌+◌, ◌*◌, List, [], ◌∷◌, ◌++◌, Bool, cond, length, take}
+use Rattle.std.specs.Prelude.{ℕ, suc, ◌+◌, ◌*◌, List, [], ◌∷◌, ◌++◌, Bool, cond, Option, None, Some, length, take}
 use Rattle.report.specs.Ports.{device_count}
 use Rattle.port.specs.declared.Port.{Port}
 use Rattle.port.specs.declared.Version.{Version}
-use Rattle.port.specs.declared.Version.TheVariants as versions
 use Rattle.port.specs.declared.Battery.{Battery}
-use Rattle.port.specs.declared.Battery.TheVariants as batteries
-use Rattle.port.specs.declared.Serial.{Serial}
-use Rattle.port.specs.declared.Serial.TheVariants as serials
 use Rattle.text.specs.Words.{ascii, newline, hex, decimal}
 
 -- the text of each element in order; the number counts the elements before it
@@ -66,26 +62,26 @@ abbrev pub unknown : List ℕ
 unknown = ascii "-"
 
 -- major.minor
-unfoldable pub version_text : Version → List ℕ
-version_text versions.Unknown = unknown
-version_text (versions.Known major minor) = decimal major ++ (ascii "." ++ decimal minor)
+unfoldable pub version_text : Option Version → List ℕ
+version_text None = unknown
+version_text (Some v) = decimal v.major ++ (ascii "." ++ decimal v.minor)
 
 abbrev pub version_most : ℕ
 version_most = byte_most + (length (ascii ".") + byte_most)
 
 -- level,next,status
-unfoldable pub battery_text : Battery → List ℕ
-battery_text batteries.Unknown = unknown
-battery_text (batteries.Known level next status) =
-    decimal level ++ (ascii "," ++ (decimal next ++ (ascii "," ++ decimal status)))
+unfoldable pub battery_text : Option Battery → List ℕ
+battery_text None = unknown
+battery_text (Some b) =
+    decimal b.level ++ (ascii "," ++ (decimal b.next ++ (ascii "," ++ decimal b.status)))
 
 abbrev pub battery_most : ℕ
 battery_most = byte_most + (length (ascii ",") + (byte_most + (length (ascii ",") + byte_most)))
 
 -- eight hexadecimal digits
-unfoldable pub serial_text : Serial → List ℕ
-serial_text serials.Unknown = unknown
-serial_text (serials.Known number) = hex digits32 number
+unfoldable pub serial_text : Option ℕ → List ℕ
+serial_text None = unknown
+serial_text (Some number) = hex digits32 number
 
 abbrev pub serial_most : ℕ
 serial_most = digits32

@@ -1,15 +1,14 @@
 // Words, numbers and what a port holds, as bytes of text put into a lent buffer from an offset on.
 #![tactic(auto)]
 
-ghost use Rattle.std.specs.Prelude.{◌≡◌, [], ◌∷◌, ◌<◌, length};
-ghost use Rattle.frame.specs.Writing.{frame_at};
+ghost use Rattle.std.specs.Prelude.{◌≡◌, [], ◌∷◌, ◌++◌, ◌<◌, ◌≤◌, ◌+◌, ◌*◌, ℕ, List, length};
+ghost use Rattle.frame.specs.Writing.{frame_at, fits_at};
 ghost use Rattle.frame.specs.FrameContracts.{written_outcome};
 ghost use Rattle.text.specs.Words.{digit, hex, decimal};
-ghost use Rattle.text.specs.Putting.{Puts};
-ghost use Rattle.text.specs.Texts.{number_most, byte_most, link_text, link_most, version_text, version_most, battery_text, battery_most, serial_text, serial_most};
+ghost use Rattle.text.specs.Putting.{Outputs, OutputsWhole, PutsWith, PutsEach, PutsLines};
+ghost use Rattle.text.specs.Texts.{each, paired_lines, number_most, byte_most, link_text, link_most, version_text, version_most, battery_text, battery_most, serial_text, serial_most};
 
-use frame::Written;
-use port::{Battery, Serial, Version};
+use port::{Battery, Port, Version};
 use report::Refusal;
 
 // The byte between two fields of a line, and the byte at its end.
@@ -37,124 +36,182 @@ pub const BATTERY_MOST: usize = 3 * BYTE_MOST + 2;
 
 pub const SERIAL_MOST: usize = DIGITS_32 as usize;
 
+// Devices 1 to 6 have positions 0 to 5 among the ports; the receiver comes last.
+const DEVICES: usize = report::DEVICES as usize;
+
 const DIGITS: [u8; 16] = [
     b'0', b'1', b'2', b'3', b'4', b'5', b'6', b'7', b'8', b'9', b'A', b'B', b'C', b'D', b'E', b'F',
 ];
 
-// One byte. Every function here puts its text, or as much of it as fits, and answers the offset after it.
-pub fn put_byte(buffer: &mut [u8], at: usize, byte: u8) -> usize
-    ensures put { Puts 1 (byte ∷ []) at buffer.old result buffer.new }
-{
-    if at < buffer.len() {
-        buffer[at] = byte;
-        return at + 1;
-    }
-    at
+// A lent buffer, and the offset in it where the next text goes.
+#[derive(Drop)]
+pub struct Out<'a> {
+    pub buffer: &'a mut [u8],
+    pub at: usize,
 }
 
-// The bytes of a word.
-pub fn put_word(buffer: &mut [u8], at: usize, word: &[u8]) -> usize
-    ensures put { Puts (length word.now) word.now at buffer.old result buffer.new }
-{
-    let mut next = at;
-    let mut i = 0;
-    while i < word.len() {
-        next = put_byte(buffer, next, word[i]);
-        i += 1;
-    }
-    next
-}
-
-fn put_digit(buffer: &mut [u8], at: usize, n: usize) -> usize
-    requires { n < 16 }
-    ensures { Puts 1 (digit n ∷ []) at buffer.old result buffer.new }
-{
-    put_byte(buffer, at, DIGITS[n])
-}
-
-// Hexadecimal in capitals: the last `width` digits.
-pub fn put_hex(buffer: &mut [u8], at: usize, width: u8, n: usize) -> usize
-    ensures put { Puts width (hex width n) at buffer.old result buffer.new }
-{
-    if width == 0 {
-        return at;
-    }
-    let end = put_hex(buffer, at, width - 1, n / 16);
-    put_digit(buffer, end, n % 16)
-}
-
-// Decimal, without a leading zero.
-pub fn put_decimal(buffer: &mut [u8], at: usize, n: usize) -> usize
-    ensures put { Puts number_most (decimal n) at buffer.old result buffer.new }
-{
-    if n < 10 {
-        return put_digit(buffer, at, n);
-    }
-    let end = put_decimal(buffer, at, n / 10);
-    put_digit(buffer, end, n % 10)
-}
-
-// A byte in decimal.
-pub fn put_small(buffer: &mut [u8], at: usize, n: u8) -> usize
-    ensures put { Puts byte_most (decimal n) at buffer.old result buffer.new }
-{
-    put_decimal(buffer, at, n as usize)
-}
-
-pub fn put_link(buffer: &mut [u8], at: usize, up: bool) -> usize
-    ensures put { Puts link_most (link_text up) at buffer.old result buffer.new }
-{
-    if up {
-        return put_word(buffer, at, b"up");
-    }
-    put_word(buffer, at, b"down")
-}
-
-pub fn put_version(buffer: &mut [u8], at: usize, version: Version) -> usize
-    ensures put { Puts version_most (version_text version) at buffer.old result buffer.new }
-{
-    match version {
-        Version::Unknown => put_byte(buffer, at, b'-'),
-        Version::Known(major, minor) => {
-            let at = put_small(buffer, at, major);
-            let at = put_byte(buffer, at, b'.');
-            put_small(buffer, at, minor)
+// Each of these puts its text, or as much of it as fits, and moves the offset after it.
+impl Out<'_> {
+    pub fn byte(&mut self, byte: u8)
+        ensures put { Outputs 1 (byte ∷ []) self.old self.new }
+    {
+        if self.at < self.buffer.len() {
+            self.buffer[self.at] = byte;
+            self.at += 1;
         }
     }
-}
 
-pub fn put_battery(buffer: &mut [u8], at: usize, battery: Battery) -> usize
-    ensures put { Puts battery_most (battery_text battery) at buffer.old result buffer.new }
-{
-    match battery {
-        Battery::Unknown => put_byte(buffer, at, b'-'),
-        Battery::Known(level, next, status) => {
-            let at = put_small(buffer, at, level);
-            let at = put_byte(buffer, at, b',');
-            let at = put_small(buffer, at, next);
-            let at = put_byte(buffer, at, b',');
-            put_small(buffer, at, status)
+    // The bytes of a word.
+    pub fn word(&mut self, word: &[u8])
+        ensures put { Outputs (length word.now) word.now self.old self.new }
+    {
+        if self.at < self.buffer.len() {
+            let size = word.len().min(self.buffer.len() - self.at);
+            let end = self.at + size;
+            self.buffer[self.at..end].copy_from_slice(&word[..size]);
+            self.at = end;
         }
     }
-}
 
-pub fn put_serial(buffer: &mut [u8], at: usize, serial: Serial) -> usize
-    ensures put { Puts serial_most (serial_text serial) at buffer.old result buffer.new }
-{
-    match serial {
-        Serial::Unknown => put_byte(buffer, at, b'-'),
-        Serial::Known(number) => put_hex(buffer, at, DIGITS_32, number as usize),
+    fn digit(&mut self, n: usize)
+        requires { n < 16 }
+        ensures { Outputs 1 (digit n ∷ []) self.old self.new }
+    {
+        self.byte(DIGITS[n])
+    }
+
+    // Hexadecimal in capitals: the last `width` digits.
+    pub fn hex(&mut self, width: u8, n: usize)
+        ensures put { Outputs width (hex width n) self.old self.new }
+    {
+        if width > 0 {
+            self.hex(width - 1, n / 16);
+            self.digit(n % 16)
+        }
+    }
+
+    // Decimal, without a leading zero.
+    pub fn decimal(&mut self, n: usize)
+        ensures put { Outputs number_most (decimal n) self.old self.new }
+    {
+        if n < 10 {
+            self.digit(n)
+        } else {
+            self.decimal(n / 10);
+            self.digit(n % 10)
+        }
+    }
+
+    // A byte in decimal.
+    pub fn small(&mut self, n: u8)
+        ensures put { Outputs byte_most (decimal n) self.old self.new }
+    {
+        self.decimal(n as usize)
+    }
+
+    pub fn link(&mut self, up: bool)
+        ensures put { Outputs link_most (link_text up) self.old self.new }
+    {
+        if up {
+            self.word(b"up")
+        } else {
+            self.word(b"down")
+        }
+    }
+
+    pub fn version(&mut self, version: Option<Version>)
+        ensures put { Outputs version_most (version_text version) self.old self.new }
+    {
+        match version {
+            None => self.byte(b'-'),
+            Some(version) => {
+                self.small(version.major);
+                self.byte(b'.');
+                self.small(version.minor);
+            }
+        }
+    }
+
+    pub fn battery(&mut self, battery: Option<Battery>)
+        ensures put { Outputs battery_most (battery_text battery) self.old self.new }
+    {
+        match battery {
+            None => self.byte(b'-'),
+            Some(battery) => {
+                self.small(battery.level);
+                self.byte(b',');
+                self.small(battery.next);
+                self.byte(b',');
+                self.small(battery.status);
+            }
+        }
+    }
+
+    pub fn serial(&mut self, serial: Option<u32>)
+        ensures put { Outputs serial_most (serial_text serial) self.old self.new }
+    {
+        match serial {
+            None => self.byte(b'-'),
+            Some(number) => self.hex(DIGITS_32, number as usize),
+        }
+    }
+
+    // Every element of a list in order, each as `put` puts it, which is given its position too.
+    pub fn each<T, F: Fn(&mut Out, usize, &T)>(&mut self, elements: &[T], put: F)
+        requires { F.IsAlwaysCallable put }
+        ensures each { (text : ℕ → T → List ℕ) (most : ℕ) → PutsEach (F.post put) most text → Outputs (most * length elements.now) (each text elements.now) self.old self.new }
+    {
+        for (i, element) in elements.iter().enumerate() {
+            put(self, i, element);
+        }
+    }
+
+    // What `put` puts, all of it or nothing: nothing where fewer than `most` bytes are left.
+    pub fn whole<F: FnOnce(&mut Out)>(&mut self, most: usize, put: F)
+        requires { F.IsAlwaysCallable put }
+        ensures whole { (text : List ℕ) → PutsWith (F.post put) most text → OutputsWhole most text self.old self.new }
+    {
+        if frame::fits(most, self.at, self.buffer.len()) {
+            put(self)
+        }
     }
 }
 
 // Writes a whole text at its offset, or answers 10.
-pub fn write_at(bytes: &[u8], buffer: &mut [u8], offset: usize) -> Written
+pub fn write_at(bytes: &[u8], buffer: &mut [u8], offset: usize) -> Result<usize, Refusal>
     ensures written { written_outcome result buffer.new ≡ frame_at bytes.now offset buffer.old }
 {
     let size = bytes.len();
-    if frame::fits(size, offset, buffer.len()) {
-        put_word(&mut buffer[offset..], 0, bytes);
-        return Written::Bytes(size);
+    if !frame::fits(size, offset, buffer.len()) {
+        return Err(Refusal::NoRoom);
     }
-    Written::Refused(Refusal::NoRoom)
+    buffer[offset..offset + size].copy_from_slice(bytes);
+    Ok(size)
+}
+
+// Writes a first line, and after it the line of each paired device among the ports, as `line` puts it, which is given the device's number: refusal 10. `room` has room for every such text.
+pub fn write_paired<F: Fn(&mut Out, u8, &Port)>(
+    room: &mut [u8],
+    first: &[u8],
+    ports: &[Port; port::PORTS],
+    line: F,
+    buffer: &mut [u8],
+    offset: usize,
+) -> Result<usize, Refusal>
+    requires call { F.IsAlwaysCallable line }
+    requires room { (text : ℕ → Port → List ℕ) × PutsLines (F.post line) first.now (length room.old) text }
+    ensures written { (text : ℕ → Port → List ℕ) → PutsLines (F.post line) first.now (length room.old) text → written_outcome result buffer.new ≡ frame_at (first.now ++ paired_lines text ports.now) offset buffer.old }
+{
+    let mut out = Out {
+        buffer: room,
+        at: 0,
+    };
+    out.word(first);
+    for (i, port) in ports[..DEVICES].iter().enumerate() {
+        if port.paired {
+            line(&mut out, (i + 1) as u8, port);
+        }
+    }
+    let Out { buffer: room, at } = out;
+    write_at(&room[..at], buffer, offset)
 }
