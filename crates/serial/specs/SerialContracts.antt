@@ -1,12 +1,13 @@
 -- Helpers of contracts: what the program finds of a serial, in the terms of the rules.
+use Rattle.std.specs.Prelude.{ℕ, Option, Some, None}
+use Rattle.port.specs.declared.Called.{Called}
+use Rattle.port.specs.declared.Port.{Port}
 use Rattle.serial.specs.Serials as rules
 use Rattle.serial.specs.declared.Given.{Given}
-use Rattle.serial.specs.declared.Given.TheVariants.{Nothing, Serial}
-use Rattle.serial.specs.declared.Kept.{Kept}
 
-abbrev pub given_of : Given → rules.Given
-given_of Nothing = rules.no_serial
-given_of (Serial device number) = rules.serial_of device.0 number
+abbrev pub given_of : Option Given → rules.Given
+given_of None = rules.no_serial
+given_of (Some g) = rules.serial_of g.device.0 g.number
 
-abbrev pub kept_of : Kept → rules.SerialResult
-kept_of k = record { dropped = k.dropped; port = k.port }
+abbrev pub kept_of : Called ℕ Port → rules.SerialResult
+kept_of k = record { dropped = k.answer; port = k.next }

@@ -1,11 +1,9 @@
 -- Document 02, Ask 1: a device's serial, which the receiver gives out of its long register B5.
-use Rattle.std.specs.Prelude.{ℕ, suc, ◌+◌, ◌-◌, Bool, false, cond, not, ◌&&◌, List, eqb}
+use Rattle.std.specs.Prelude.{ℕ, suc, ◌+◌, ◌-◌, Bool, false, cond, not, ◌&&◌, List, eqb, Option, Some, None}
 use Rattle.report.specs.Ports.{device_count, receiver, in_range}
 use Rattle.report.specs.Sizes.{hidpp_long, joined4}
 use Rattle.report.specs.Reading.{Report}
 use Rattle.port.specs.declared.Port.{Port}
-use Rattle.port.specs.declared.Serial.{Serial}
-use Rattle.port.specs.declared.Serial.TheVariants.{Unknown, Known}
 use Rattle.port.specs.Records.{made_fresh, request_in, with_pairing, with_serial}
 use Rattle.port.specs.Places.{count_waiting}
 use Rattle.port.specs.Waiting.{waiting_at, is_found}
@@ -60,9 +58,9 @@ given_by p r bytes =
     no_serial
 
 -- a different serial is known
-abbrev pub is_another : Serial → ℕ → Bool
-is_another Unknown number = false
-is_another (Known known) number = not (eqb known number)
+abbrev pub is_another : Option ℕ → ℕ → Bool
+is_another None number = false
+is_another (Some known) number = not (eqb known number)
 
 -- what a serial does at its device's port: how many requests it drops there, and the port after it
 pub record SerialResult : Type 0 where
@@ -76,6 +74,6 @@ serial_rule p number =
     (cond (is_another p.serial number)
     (record {
       dropped = count_waiting p.places;
-      port = with_serial (with_pairing (made_fresh p) p.wpid p.reports) (Known number);
+      port = with_serial (with_pairing (made_fresh p) p.wpid p.reports) (Some number);
     })
-    (record { dropped = 0; port = with_serial p (Known number) }))
+    (record { dropped = 0; port = with_serial p (Some number) }))

@@ -6,7 +6,7 @@ ghost use Rattle.report.specs.ReportContracts.{hidpp_of};
 ghost use Rattle.serial.specs.Serials.{is_serial_report, is_asked_with, serial_in, given_by, is_another, serial_rule};
 ghost use Rattle.serial.specs.SerialContracts.{given_of, kept_of};
 
-use port::Port;
+use port::{Called, Port};
 use report::{Device, FeatureIndex, HidppReport};
 
 // Byte 3 of a request for a serial: the register.
@@ -17,48 +17,32 @@ const FIRST: u8 = 0x30;
 
 const LAST: u8 = FIRST + report::DEVICES - 1;
 
-// What a report gives: no serial, or that of a device.
+// A device's serial, as a report gives it.
 #[derive(Clone, Copy)]
-pub enum Given {
-    Nothing,
-    Serial { device: Device, number: u32 },
-}
-
-// What a serial does at its device's port: how many requests it drops there, and the port after it.
-#[derive(Clone, Copy)]
-pub struct Kept {
-    pub dropped: u8,
-    pub port: Port,
+pub struct Given {
+    pub device: Device,
+    pub number: u32,
 }
 
 // Whether the report is a long one of the register, on port 255.
 fn is_report(h: HidppReport) -> bool
     ensures { result ≡ is_serial_report (hidpp_of h) }
 {
-    if h.device.0 != report::RECEIVER {
-        return false;
-    }
-    if h.id != report::HIDPP_LONG {
-        return false;
-    }
-    if h.byte2.0 != frame::GET_LONG_REGISTER {
-        return false;
-    }
-    h.byte3 == SERIAL_REGISTER
+    h.device.0 == report::RECEIVER
+        && h.id == report::HIDPP_LONG
+        && h.byte2.0 == frame::GET_LONG_REGISTER
+        && h.byte3 == SERIAL_REGISTER
 }
 
 // Whether a request for the register waits at the port, with this first parameter.
 fn is_asked_with(port: Port, first: u8) -> bool
     ensures { result ≡ is_asked_with port first }
 {
-    let places = port.places;
     let byte2 = FeatureIndex(frame::GET_LONG_REGISTER);
-    let place = port::first_match(places, byte2, SERIAL_REGISTER);
-    if place < port::PLACES {
-        let request = port::request_in(places, place);
-        return request.first.0 == first;
-    }
-    false
+    let Some(place) = port::first_match(port.places, byte2, SERIAL_REGISTER) else {
+        return false;
+    };
+    port::request_in(port.places, place).first.0 == first
 }
 
 // The four bytes after the first parameter, the most significant first.
@@ -73,54 +57,51 @@ fn serial_in(bytes: &[u8]) -> u32
 }
 
 // What a report gives that is taken at this port.
-pub fn given_by(port: Port, h: HidppReport, bytes: &[u8]) -> Given
+#[tactic(auto, unfolding(crate::specs::Serials::given_by))]
+pub fn given_by(port: Port, h: HidppReport, bytes: &[u8]) -> Option<Given>
     ensures given { given_of result ≡ given_by port (hidpp_of h) bytes.now }
 {
     if !is_report(h) {
-        return Given::Nothing;
+        return None;
     }
     let first = matching::parameter(bytes, 0);
-    if !report::within(FIRST, first, LAST) {
-        return Given::Nothing;
+    if !report::within(FIRST, first, LAST) || !is_asked_with(port, first) {
+        return None;
     }
-    if !is_asked_with(port, first) {
-        return Given::Nothing;
-    }
-    Given::Serial {
+    Some(Given {
         device: Device(first - FIRST + 1),
         number: serial_in(bytes),
-    }
+    })
 }
 
 // Whether a different serial is known.
-fn is_another(serial: port::Serial, number: u32) -> bool
+fn is_another(serial: Option<u32>, number: u32) -> bool
     ensures { result ≡ is_another serial number }
 {
-    match serial {
-        port::Serial::Unknown => false,
-        port::Serial::Known(known) => known != number,
-    }
+    serial.is_some_and(|known| known != number)
 }
 
-// Keeps the serial of a device at its port.
-pub fn keep(port: Port, number: u32) -> Kept
+// Keeps the serial of a device at its port, and answers how many requests it drops there.
+#[tactic(auto, unfolding(crate::specs::Serials::serial_rule))]
+pub fn keep(port: Port, number: u32) -> Called<u8, Port>
     ensures kept { kept_of result ≡ serial_rule port number }
 {
     if !port.paired {
-        return Kept { dropped: 0, port };
-    }
-    let serial = port.serial;
-    if is_another(serial, number) {
-        let places = port.places;
-        let dropped = port::count_waiting(places);
-        let fresh = port::paired_anew(port, port.wpid, port.reports);
-        return Kept {
-            dropped,
-            port: port::with_serial(fresh, port::Serial::Known(number)),
+        return Called {
+            answer: 0,
+            next: port,
         };
     }
-    Kept {
-        dropped: 0,
-        port: port::with_serial(port, port::Serial::Known(number)),
+    if is_another(port.serial, number) {
+        let fresh = port::paired_anew(port, port.wpid, port.reports);
+        Called {
+            answer: port::count_waiting(port.places),
+            next: port::with_serial(fresh, Some(number)),
+        }
+    } else {
+        Called {
+            answer: 0,
+            next: port::with_serial(port, Some(number)),
+        }
     }
 }
