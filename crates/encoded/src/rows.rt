@@ -10,7 +10,7 @@ ghost use Rattle.restore.specs.RestoreContracts.{restored_of};
 use frame::Written;
 use port::answer::{About, Notice, Taken};
 use port::waiting::Cancelled;
-use restore::Restored;
+use restore::NotRestored;
 
 // The longest answer is a pairing: kind, port, more, two bytes of WPID, four of bitfield, and the count of dropped requests.
 pub const ROW: usize = 1 + 1 + 1 + 2 + 4 + 1;
@@ -133,12 +133,13 @@ pub fn of_ticked(counts: [u8; port::PORTS]) -> [u8; ROW]
     ]
 }
 
-pub fn of_restored(answer: Restored) -> [u8; ROW]
+pub fn of_restored(answer: Result<(), NotRestored>) -> [u8; ROW]
     ensures row { result ≡ restored_row (restored_of answer) }
 {
     match answer {
-        Restored::Refused(refusal) => [17, refusal.number(), 0, 0, 0, 0, 0, 0, 0, 0],
-        Restored::RefusedAt(refusal, line) => [17, refusal.number(), line, 0, 0, 0, 0, 0, 0, 0],
-        Restored::Done => [18, 0, 0, 0, 0, 0, 0, 0, 0, 0],
+        Err(NotRestored { refusal, line }) => {
+            [17, refusal.number(), line.unwrap_or(0), 0, 0, 0, 0, 0, 0, 0]
+        }
+        Ok(()) => [18, 0, 0, 0, 0, 0, 0, 0, 0, 0],
     }
 }

@@ -12,7 +12,7 @@ use frame::Written;
 use port::answer::{About, Taken};
 use port::waiting::Cancelled;
 use report::{Device, FeatureIndex};
-use restore::Restored;
+use restore::NotRestored;
 use station::Station;
 
 // The head of a call: its kind, the number of bytes that it lends, the device, byte 2, byte 3, the ticks, and two bytes that
@@ -116,13 +116,14 @@ fn tick_weight(ended: [u8; port::PORTS]) -> u64
         + wide(ended[6])
 }
 
-fn restore_weight(answer: Restored) -> u64
+fn restore_weight(answer: Result<(), NotRestored>) -> u64
     ensures { result ≡ restore_weight (restored_of answer) }
 {
     match answer {
-        Restored::Done => RESTORED,
-        Restored::Refused(refusal) => refusal.number() as u64,
-        Restored::RefusedAt(refusal, line) => (refusal.number() as u64) + LINE * (line as u64),
+        Ok(()) => RESTORED,
+        Err(NotRestored { refusal, line }) => {
+            (refusal.number() as u64) + LINE * (line.unwrap_or(0) as u64)
+        }
     }
 }
 

@@ -21,7 +21,7 @@ use frame::Written;
 use mouse::{Motion, Moved};
 use port::waiting::Cancelled;
 use report::{Device, DjReport, Reading, Refusal};
-use restore::Restored;
+use restore::NotRestored;
 
 // Room for the longest line, except a writer's.
 const ANSWER: usize = replay_fields::ANSWER;
@@ -146,18 +146,25 @@ fn put_refused_at(buffer: &mut [u8], at: usize, refusal: Refusal, line: u8) -> u
     text::put_byte(buffer, at, b'\n')
 }
 
-fn put_restored_line(buffer: &mut [u8], at: usize, answer: Restored) -> usize
+#[tactic(auto, unfolding(crate::specs::AnswerLines::restored_text), using(replay_fields::proofs::PartsLaws::an_answer))]
+fn put_restored_line(buffer: &mut [u8], at: usize, answer: Result<(), NotRestored>) -> usize
     ensures { Puts answer_most (restored_text (restored_of answer)) at buffer.old result buffer.new }
 {
     match answer {
-        Restored::Done => text::put_word(buffer, at, b"restored\n"),
-        Restored::Refused(refusal) => replay_fields::put_refused(buffer, at, refusal),
-        Restored::RefusedAt(refusal, line) => put_refused_at(buffer, at, refusal, line),
+        Ok(()) => text::put_word(buffer, at, b"restored\n"),
+        Err(NotRestored {
+            refusal,
+            line: None,
+        }) => replay_fields::put_refused(buffer, at, refusal),
+        Err(NotRestored {
+            refusal,
+            line: Some(line),
+        }) => put_refused_at(buffer, at, refusal, line),
     }
 }
 
 // What reading a store answered.
-pub fn put_restored(buffer: &mut [u8], at: usize, answer: Restored) -> usize
+pub fn put_restored(buffer: &mut [u8], at: usize, answer: Result<(), NotRestored>) -> usize
     ensures put { filled result buffer.new ≡ whole_rule answer_most (restored_text (restored_of answer)) at buffer.old }
 {
     if frame::fits(ANSWER, at, buffer.len()) {

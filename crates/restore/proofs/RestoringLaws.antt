@@ -1,95 +1,69 @@
 -- Laws of reading a store: what the program reads is what the rules read.
-use Rattle.std.specs.Prelude.{ℕ, zero, suc, ◌+◌, ◌≤◌, ◌<◌, Bool, true, false, length, get_or, set, replicate}
+use Rattle.std.specs.Prelude.{ℕ, zero, suc, ◌+◌, ◌-◌, ◌≤◌, ◌<◌, length, get_or, set, replicate}
 use Rattle.std.proofs.Math.Path.{◌≡◌, refl, sym, ap, subst}
-use Rattle.std.proofs.Common.{◌∙◌, add-one, zero-add, arith, drop_of_length-le, take-suc-set, take-suc, get_or-set_other, eq-eqb, ne_eqb}
+use Rattle.std.proofs.Common.{◌∙◌, add-one, add-zero, zero-add, suc-add, arith, take-suc-set, take-suc, get_or-set_other, eq-eqb, ne_eqb}
 use mathlib.Core.List.{List, [], ◌∷◌, ◌++◌, append_assoc}
-use Rattle.std.proofs.Math.ListN.{take, drop, length-set}
+use Rattle.std.proofs.Math.ListN.{take, length-set}
 use Rattle.std.proofs.Math.Seq.{take_all}
 use Rattle.report.specs.Refusals as refusals
 use Rattle.report.specs.Ports.{device_count}
 use Rattle.report.specs.declared.FeatureIndex.{FeatureIndex}
 use Rattle.port.specs.declared.Port.{Port}
-use Rattle.port.specs.declared.Version.{Version}
-use Rattle.port.specs.declared.Serial.{Serial}
 use Rattle.port.specs.Records.{max_index, feature_count, fresh_port}
-use Rattle.text.specs.Words.{ascii, newline, decimal}
+use Rattle.text.specs.Words.{decimal}
 use Rattle.text.proofs.WordsLaws.{decimal_last}
-use Rattle.text.specs.Texts.{tab, digits16, digits32}
-use Rattle.scan.specs.Scans.{Scan, missing, found, then_scan, pair_scan, word_scan, number_scan, decimal_scan, digits_scan, digit_more, hex_scan, serial_scan, version_scan}
-use Rattle.scan.specs.ScanContracts.{scanned, Scans, capped, capped_scan}
-use Rattle.scan.proofs.ScansLaws.{not_missing, same_value, same_rest, front, value_found, mapped, pair_scanned, capped_is, capped_small}
+use Rattle.text.specs.Texts.{tab}
+use Rattle.scan.specs.Scans.{Scan, missing, found, then_scan, pair_scan, decimal_scan}
+use Rattle.std.proofs.lemmas.List.{nil_from_length}
+use Rattle.scan.specs.ScanContracts.{capped}
+use Rattle.scan.proofs.ScansLaws.{not_missing, same_value, same_rest, capped_is, capped_small}
 use Rattle.scan.proofs.ExactLaws.{low_digit}
-use Rattle.store.specs.Stores.{edition, pad_port}
-use Rattle.restore.specs.Restoring.{stop_after, with_index, indexes_scan, Pad, pad_scan, port_of, device_scan, StoreRead, store_of, of_other, broken_at, with_first, Row, row_by, row_in, devices_in, edition_scan, by_edition, read_store, Restoring, restored, refused, refused_at, restored_by, restore_ports}
-use Rattle.restore.specs.RestoreContracts.{Rows}
-
--- the first i indexes have been read
-pub record Indexed (text : List ℕ) (at : ℕ) (features : List FeatureIndex) (is_found : Bool) (next i : ℕ) : Type 0 where
-  pub all : length features ≡ feature_count
-  pub within : i ≤ feature_count
-  pub so : Scans (indexes_scan i) text at is_found (take i features) next
-
-module _ (text : List ℕ) (at : ℕ) where
-  pub indexes_begun : (features : List FeatureIndex) → length features ≡ feature_count → Indexed text at features true at 0
-  unfolding indexes_scan
-  indexes_begun features all =
-      record { all = all; within = omega arith; so = value_found (indexes_scan 0) text at [] at refl }
-
-  module _ {features : List FeatureIndex} {f : Bool} {next i : ℕ} (s : Indexed text at features f next i) where
-    pub index_read : {g : Bool} {v n stop : ℕ} → i < feature_count → stop ≡ stop_after i → Scans (decimal_scan max_index stop) text next g v n → Indexed text at (set features i (record { 0 = v })) g n (i + 1)
-    unfolding indexes_scan decimal_scan number_scan
-    index_read {g} {v} {n} {stop} h e r =
-        let q : Scans (decimal_scan max_index (stop_after i)) text next g v n = subst (λ (k : ℕ). Scans (decimal_scan max_index k) text next g v n) e r in
-        let both : Scans (indexes_scan (suc i)) text at g (take i features ++ (record { 0 = v } ∷ [])) n = mapped with_index (pair_scanned refl s.so q) in
-        let value : take i features ++ (record { 0 = v } ∷ []) ≡ take (suc i) (set features i (record { 0 = v })) = sym (take-suc-set features i (record { 0 = v }) (omega (arith, s.all))) in
-        record {
-          all = length-set features i (record { 0 = v }) ∙ s.all;
-          within = omega arith;
-          so = subst (λ (k : ℕ). Scans (indexes_scan k) text at g (take k (set features i (record { 0 = v }))) n) (sym (add-one i)) (subst (λ (l : List FeatureIndex). Scans (indexes_scan (suc i)) text at g l n) value both);
-        }
-
-    pub indexes_done : feature_count ≤ i → Scans (indexes_scan feature_count) text at f features next
-    indexes_done h =
-        let all : i ≡ feature_count = omega (arith, s.within) in
-        let whole : take i features ≡ features = take_all i features (omega (arith, s.all)) in
-        subst (λ (k : ℕ). Scans (indexes_scan k) text at f features next) all (subst (λ (l : List FeatureIndex). Scans (indexes_scan i) text at f l next) whole s.so)
+use Rattle.store.specs.Stores.{edition}
+use Rattle.restore.specs.Restoring.{stop_after, with_index, indexes_scan, device_scan, StoreRead, store_of, of_other, broken_at, with_first, Row, row_by, row_in, devices_in, by_edition, Restoring, restored, refused_at, restored_by}
 
 -- a device's number, and a tab
 pub device_word : (number : ℕ) → number < 10 → (48 + number) ∷ tab ∷ [] ≡ decimal number ++ (tab ∷ [])
 device_word number h =
     sym (ap (λ (l : List ℕ). l ++ (tab ∷ [])) (decimal_last number h ∙ ap (λ (c : ℕ). c ∷ []) (low_digit number h)))
 
--- what follows it
-pub pad_scanned : {text : List ℕ} {at : ℕ} {f₁ f₂ f₃ f₄ f₅ : Bool} {wpid : ℕ} {serial : Serial} {reports : ℕ} {version : Version} {features : List FeatureIndex} {n₁ n₂ n₃ n₄ n₅ : ℕ} → Scans (hex_scan digits16 tab) text at f₁ wpid n₁ → Scans (serial_scan tab) text n₁ f₂ serial n₂ → Scans (hex_scan digits32 tab) text n₂ f₃ reports n₃ → Scans (version_scan tab) text n₃ f₄ version n₄ → Scans (indexes_scan feature_count) text n₄ f₅ features n₅ → Scans pad_scan text at f₅ (wpid, (serial, (reports, (version, features)))) n₅
-unfolding pad_scan pair_scan serial_scan hex_scan digits_scan digit_more version_scan indexes_scan decimal_scan number_scan
-pad_scanned a b c d e = pair_scanned refl a (pair_scanned refl b (pair_scanned refl c (pair_scanned refl d e)))
+-- what is missing stays missing
+gone : (text : List ℕ) (i more : ℕ) → indexes_scan i text ≡ missing → indexes_scan (more + i) text ≡ missing
+unfolding indexes_scan pair_scan
+gone text i zero e = ap (λ (k : ℕ). indexes_scan k text) (zero-add i) ∙ e
+gone text i (suc more) e =
+    ap (λ (k : ℕ). indexes_scan k text) (suc-add more i) ∙ ap (λ (x : Scan (List FeatureIndex)). then_scan (then_scan x λ a rest. then_scan (decimal_scan max_index (stop_after (more + i)) rest) λ b rest. found (a, b) rest) λ p rest. found (with_index p) rest) (gone text i more e)
 
-pub device_scanned : {text : List ℕ} {at number : ℕ} {f g : Bool} {n m : ℕ} {wpid : ℕ} {serial : Serial} {reports : ℕ} {version : Version} {features : List FeatureIndex} {port : Port} → number < 10 → Scans (word_scan ((48 + number) ∷ tab ∷ [])) text at f tt n → Scans pad_scan text n g (wpid, (serial, (reports, (version, features)))) m → port ≡ pad_port wpid serial reports version features → Scans (device_scan number) text at g port m
-unfolding device_scan pad_scan pair_scan hex_scan digits_scan digit_more
-device_scanned {text} {at} {number} {f} {g} {n} {m} {wpid} {serial} {reports} {version} {features} {port} small word pad e =
-    let named : Scans (word_scan (decimal number ++ (tab ∷ []))) text at f tt n = subst (λ (w : List ℕ). Scans (word_scan w) text at f tt n) (device_word number small) word in
-    subst (λ (p : Port). Scans (device_scan number) text at g p m) (sym e) (mapped (λ (p : Unit {0} × Pad). port_of p.1) (pair_scanned refl named pad))
-
--- a device in the text, or not
-module _ (number : ℕ) (text : List ℕ) (at : ℕ) where
-  pub row_found : {f : Bool} {port : Port} {n : ℕ} → Scans (device_scan number) text at f port n → f ≡ true → Rows number text at port n 1
-  unfolding row_in
-  row_found {f} {port} {n} s e =
-      record {
-        so = ap (row_by (drop at text)) (ap (λ (b : Bool). scanned b port (drop n text)) (sym e) ∙ s.so);
-        one = omega arith;
-      }
-
-  pub row_missing : {f : Bool} {port fresh : Port} {n : ℕ} → Scans (device_scan number) text at f port n → f ≡ false → fresh ≡ fresh_port → Rows number text at fresh at 0
-  unfolding row_in
-  row_missing {f} {port} {fresh} {n} s e is =
-      record {
-        so = ap (λ (p : Port). row p) is ∙ ap (row_by (drop at text)) (ap (λ (b : Bool). scanned b port (drop n text)) (sym e) ∙ s.so);
-        one = omega arith;
-      }
+-- an index more, after the first i
+module _ (text : List ℕ) (i : ℕ) (features : List FeatureIndex) {rest : List ℕ} (so : found (take i features) rest ≡ indexes_scan i text) {stop : ℕ} (is : stop ≡ stop_after i) where
+  next_index : (x : Scan ℕ) → x ≡ decimal_scan max_index stop rest → indexes_scan (i + 1) text ≡ then_scan x (λ v rest. found (take i features ++ (record { 0 = v } ∷ [])) rest)
+  unfolding indexes_scan pair_scan
+  next_index x e =
+      ap (λ (k : ℕ). indexes_scan k text) (add-one i)
+      ∙ ap (λ (y : Scan (List FeatureIndex)). then_scan (then_scan y λ a rest. then_scan (decimal_scan max_index (stop_after i) rest) λ b rest. found (a, b) rest) λ p rest. found (with_index p) rest) (sym so)
+      ∙ ap (λ (y : Scan ℕ). then_scan (then_scan y λ b rest. found (take i features, b) rest) λ p rest. found (with_index p) rest) (ap (λ (k : ℕ). decimal_scan max_index k rest) (sym is) ∙ sym e)
+      ∙ go x
     where
-      row : Port → Row
-      row p = record { port = p; rest = drop at text; lines = 0 }
+      go : (x : Scan ℕ) → then_scan (then_scan x (λ b rest. found (take i features, b) rest)) (λ p rest. found (with_index p) rest) ≡ then_scan x (λ v rest. found (take i features ++ (record { 0 = v } ∷ [])) rest)
+      go missing = refl
+      go (found v rest) = refl
+
+  pub index_read : {v : ℕ} {after : List ℕ} → i < length features → found v after ≡ decimal_scan max_index stop rest → found (take (i + 1) (set features i (record { 0 = v }))) after ≡ indexes_scan (i + 1) text
+  index_read {v} {after} h e =
+      ap (λ (l : List FeatureIndex). found l after) (ap (λ (k : ℕ). take k (set features i (record { 0 = v }))) (add-one i) ∙ take-suc-set features i (record { 0 = v }) h) ∙ sym (next_index (found v after) e)
+
+  pub index_missing : i < feature_count → missing ≡ decimal_scan max_index stop rest → missing ≡ indexes_scan feature_count text
+  index_missing h e =
+      let all : feature_count ≡ (feature_count - (i + 1)) + (i + 1) = omega arith in
+      sym (ap (λ (k : ℕ). indexes_scan k text) all ∙ gone text (i + 1) (feature_count - (i + 1)) (next_index missing e))
+
+pub indexes_begun : (text : List ℕ) → found [] text ≡ indexes_scan 0 text
+unfolding indexes_scan
+indexes_begun text = refl
+
+pub indexes_done : (text : List ℕ) (i : ℕ) (features : List FeatureIndex) {rest : List ℕ} → found (take i features) rest ≡ indexes_scan i text → length features ≡ feature_count → feature_count ≤ i → i ≤ feature_count → found features rest ≡ indexes_scan feature_count text
+indexes_done text i features {rest} so all h l =
+    let is : i ≡ feature_count = omega arith in
+    ap (λ (l : List FeatureIndex). found l rest) (sym (take_all i features (omega arith))) ∙ so ∙ ap (λ (k : ℕ). indexes_scan k text) is
 
 -- ports before those that are read
 abbrev with_all : List Port → StoreRead → StoreRead
@@ -112,126 +86,81 @@ next_device : (more number line : ℕ) (text : List ℕ) → devices_in (suc mor
 unfolding devices_in
 next_device more number line text = refl
 
--- the first i devices have been read, up to a line
-pub record Devices (text : List ℕ) (at : ℕ) (read : List Port) (line next i : ℕ) : Type 0 where
-  pub all : length read ≡ suc device_count
-  pub last : get_or read device_count fresh_port ≡ fresh_port
+-- the first i devices have been read, up to a line; the ports after them are fresh
+pub record Devices (text : List ℕ) (ports : List Port) (line : ℕ) (rest : List ℕ) (i : ℕ) : Type 0 where
+  pub all : length ports ≡ suc device_count
+  pub fresh : (k : ℕ) → i ≤ k → get_or ports k fresh_port ≡ fresh_port
   pub few : line ≤ 2 + i
-  pub left : ℕ
-  pub sum : i + left ≡ device_count
-  pub so : devices_in device_count 1 2 (drop at text) ≡ with_all (take i read) (devices_in left (suc i) line (drop next text))
+  pub so : devices_in device_count 1 2 text ≡ with_all (take i ports) (devices_in (device_count - i) (suc i) line rest)
 
-module _ (text : List ℕ) (at : ℕ) where
-  pub devices_begun : (read : List Port) → read ≡ replicate (suc device_count) fresh_port → Devices text at read 2 at 0
-  devices_begun read e =
-      record {
-        all = ap length e;
-        last = ap (λ (l : List Port). get_or l device_count fresh_port) e;
-        few = omega arith;
-        left = device_count;
-        sum = zero-add device_count;
-        so = none_before (devices_in device_count 1 2 (drop at text));
-      }
+all_fresh : (n k : ℕ) → get_or (replicate n fresh_port) k fresh_port ≡ fresh_port
+all_fresh zero k = refl
+all_fresh (suc n) zero = refl
+all_fresh (suc n) (suc k) = all_fresh n k
 
-  module _ {read : List Port} {line next i : ℕ} (s : Devices text at read line next i) where
-    pub device_read : {number : ℕ} {p : Port} {n lines : ℕ} → i < device_count → number ≡ i + 1 → Rows number text next p n lines → Devices text at (set read i p) (line + lines) n (i + 1)
-    device_read {number} {p} {n} {lines} h is r = go s.left s.sum s.so
+pub devices_begun : (text : List ℕ) (ports : List Port) → ports ≡ replicate (suc device_count) fresh_port → Devices text ports 2 text 0
+devices_begun text ports e =
+    record {
+      all = ap length e;
+      fresh = λ k h. ap (λ (l : List Port). get_or l k fresh_port) e ∙ all_fresh (suc device_count) k;
+      few = omega arith;
+      so = none_before (devices_in device_count 1 2 text);
+    }
+
+module _ {text : List ℕ} {ports : List Port} {line : ℕ} {rest : List ℕ} {i : ℕ} (s : Devices text ports line rest i) where
+  module _ (h : i < device_count) where
+    next : (row : Row) → row ≡ row_in (i + 1) rest → row.lines ≤ 1 → (new : List Port) → length new ≡ suc device_count → ((k : ℕ) → i + 1 ≤ k → get_or new k fresh_port ≡ fresh_port) → take i ports ++ (row.port ∷ []) ≡ take (suc i) new → Devices text new (line + row.lines) row.rest (i + 1)
+    next row is one new all fresh e =
+        let numbered : row ≡ row_in (suc i) rest = is ∙ ap (λ (k : ℕ). row_in k rest) (add-one i) in
+        let left : device_count - i ≡ suc (device_count - suc i) = omega arith in
+        let so : devices_in device_count 1 2 text ≡ with_all (take (suc i) new) (devices_in (device_count - suc i) (suc (suc i)) (line + row.lines) row.rest) = s.so ∙ ap (λ (k : ℕ). with_all (take i ports) (devices_in k (suc i) line rest)) left ∙ ap (with_all (take i ports)) (next_device (device_count - suc i) (suc i) line rest) ∙ ap (λ (r : Row). with_all (take i ports) (with_first r.port (devices_in (device_count - suc i) (suc (suc i)) (line + r.lines) r.rest))) (sym numbered) ∙ one_more (take i ports) row.port (devices_in (device_count - suc i) (suc (suc i)) (line + row.lines) row.rest) ∙ ap (λ (l : List Port). with_all l (devices_in (device_count - suc i) (suc (suc i)) (line + row.lines) row.rest)) e in
+        record {
+          all = all;
+          fresh = fresh;
+          few = omega (arith, s.few, one);
+          so = subst (λ (k : ℕ). devices_in device_count 1 2 text ≡ with_all (take k new) (devices_in (device_count - k) (suc k) (line + row.lines) row.rest)) (sym (add-one i)) so;
+        }
+
+    pub device_read : {p : Port} {after : List ℕ} → found p after ≡ device_scan (i + 1) rest → Devices text (set ports i p) (line + 1) after (i + 1)
+    unfolding row_in
+    device_read {p} {after} e =
+        next (record { port = p; rest = after; lines = 1 }) (ap (row_by rest) e) (omega arith) (set ports i p) (length-set ports i p ∙ s.all) (λ k l. get_or-set_other ports i k p fresh_port (λ z. omega (arith, z, l)) ∙ s.fresh k (omega arith)) (sym (take-suc-set ports i p (omega (arith, s.all))))
+
+    pub device_absent : missing ≡ device_scan (i + 1) rest → Devices text ports line rest (i + 1)
+    unfolding row_in
+    device_absent e =
+        let kept : take i ports ++ (fresh_port ∷ []) ≡ take (suc i) ports = ap (λ (p : Port). take i ports ++ (p ∷ [])) (sym (s.fresh i (omega arith))) ∙ sym (take-suc ports i fresh_port (omega (arith, s.all))) in
+        subst (λ (k : ℕ). Devices text ports k rest (i + 1)) (add-zero line) (next (record { port = fresh_port; rest = rest; lines = 0 }) (ap (row_by rest) e) (omega arith) ports s.all (λ k l. s.fresh k (omega arith)) kept)
+
+  module _ (h : device_count ≤ i) (l : i ≤ device_count) (others : List Port) where
+    end : devices_in device_count 1 2 text ≡ with_all (take device_count ports) (devices_in 0 (suc device_count) line rest)
+    end =
+        let all : i ≡ device_count = omega arith in
+        s.so ∙ ap (λ (k : ℕ). with_all (take k ports) (devices_in (device_count - k) (suc k) line rest)) all
+
+    pub devices_broken : 1 ≤ length rest → ◌≡◌ {A = Restoring} (record { answer = refused_at refusals.broken_line line; ports = others }) (restored_by others (devices_in device_count 1 2 text))
+    unfolding devices_in
+    devices_broken more = go rest end more
       where
-        numbered : number ≡ suc i
-        numbered = is ∙ add-one i
+        go : (t : List ℕ) → devices_in device_count 1 2 text ≡ with_all (take device_count ports) (devices_in 0 (suc device_count) line t) → 1 ≤ length t → ◌≡◌ {A = Restoring} (record { answer = refused_at refusals.broken_line line; ports = others }) (restored_by others (devices_in device_count 1 2 text))
+        go [] e m = absurd (omega arith)
+        go (c ∷ t) e m = sym (ap (restored_by others) e)
 
-        row : ◌≡◌ {A = Row} (record { port = p; rest = drop n text; lines = lines }) (row_in (suc i) (drop next text))
-        row = r.so ∙ ap (λ (k : ℕ). row_in k (drop next text)) numbered
-
-        step : (more : ℕ) → devices_in (suc more) (suc i) line (drop next text) ≡ with_first p (devices_in more (suc (suc i)) (line + lines) (drop n text))
-        step more = next_device more (suc i) line (drop next text) ∙ ap (λ (x : Row). with_first x.port (devices_in more (suc (suc i)) (line + x.lines) x.rest)) (sym row)
-
-        read_more : take i read ++ (p ∷ []) ≡ take (i + 1) (set read i p)
-        read_more =
-            sym (ap (λ (k : ℕ). take k (set read i p)) (add-one i) ∙ take-suc-set read i p (omega (arith, s.all)))
-
-        go : (left : ℕ) → i + left ≡ device_count → devices_in device_count 1 2 (drop at text) ≡ with_all (take i read) (devices_in left (suc i) line (drop next text)) → Devices text at (set read i p) (line + lines) n (i + 1)
-        go zero sum so = absurd (omega (arith, sum))
-        go (suc more) sum so =
-            record {
-              all = length-set read i p ∙ s.all;
-              last = get_or-set_other read i device_count p fresh_port (λ z. omega (arith, z)) ∙ s.last;
-              few = omega (arith, s.few, r.one);
-              left = more;
-              sum = omega (arith, sum);
-              so = so ∙ ap (with_all (take i read)) (step more) ∙ one_more (take i read) p (devices_in more (suc (suc i)) (line + lines) (drop n text)) ∙ (λ j. with_all (read_more j) (devices_in more (suc (sym (add-one i) j)) (line + lines) (drop n text)));
-            }
-
-    nothing_left : device_count ≤ i → s.left ≡ 0
-    nothing_left h = omega (arith, s.sum)
-
-    end : device_count ≤ i → devices_in device_count 1 2 (drop at text) ≡ with_all (take i read) (devices_in 0 (suc i) line (drop next text))
-    end h = s.so ∙ ap (λ (k : ℕ). with_all (take i read) (devices_in k (suc i) line (drop next text))) (nothing_left h)
-
-    pub devices_broken : (ports : List Port) → device_count ≤ i → next < length text → ◌≡◌ {A = Restoring} (record { answer = refused_at refusals.broken_line line; ports = ports }) (restored_by ports (devices_in device_count 1 2 (drop at text)))
+    pub devices_done : length rest ≡ 0 → ◌≡◌ {A = Restoring} (record { answer = restored; ports = ports }) (restored_by others (devices_in device_count 1 2 text))
     unfolding devices_in
-    devices_broken ports h l =
-        sym (ap (restored_by ports) (end h ∙ ap (λ (t : List ℕ). with_all (take i read) (devices_in 0 (suc i) line t)) (front text next l)))
+    devices_done none =
+        let whole : take device_count ports ++ (fresh_port ∷ []) ≡ ports = ap (λ (p : Port). take device_count ports ++ (p ∷ [])) (sym (s.fresh device_count (omega arith))) ∙ sym (take-suc ports device_count fresh_port (omega (arith, s.all))) ∙ take_all (suc device_count) ports (omega (arith, s.all)) in
+        sym (ap (restored_by others) (end ∙ ap (λ (t : List ℕ). with_all (take device_count ports) (devices_in 0 (suc device_count) line t)) (nil_from_length rest none) ∙ ap store_of whole))
 
-    pub devices_done : (ports : List Port) → device_count ≤ i → length text ≤ next → ◌≡◌ {A = Restoring} (record { answer = restored; ports = read }) (restored_by ports (devices_in device_count 1 2 (drop at text)))
-    unfolding devices_in
-    devices_done ports h l =
-        let six : i ≡ device_count = omega (arith, s.sum) in
-        let whole : take i read ++ (fresh_port ∷ []) ≡ read = ap (λ (k : ℕ). take k read ++ (fresh_port ∷ [])) six ∙ ap (λ (p : Port). take device_count read ++ (p ∷ [])) (sym s.last) ∙ sym (take-suc read device_count fresh_port (omega (arith, s.all))) ∙ take_all (suc device_count) read (omega (arith, s.all)) in
-        sym (ap (restored_by ports) (end h ∙ ap (λ (t : List ℕ). with_all (take i read) (devices_in 0 (suc i) line t)) (drop_of_length-le text l) ∙ ap store_of whole))
+-- the edition that was read: another, or this one
+pub edition_other : (x : Scan (Unit {0} × ℕ)) {v : ℕ} {rest : List ℕ} → found v rest ≡ then_scan x (λ p rest. found (capped p.1) rest) → (v ≡ edition → ⊥) → of_other ≡ by_edition x
+edition_other missing e differs = absurd (not_missing e)
+edition_other (found p t) {v} e differs =
+    let is : v ≡ capped p.1 = same_value e in
+    simp (ne_eqb p.1 edition (λ y. differs (is ∙ ap capped y ∙ capped_small edition (omega arith))))
 
--- the first line
-abbrev name : List ℕ
-name = ascii "pads" ++ (tab ∷ [])
-
-abbrev capped_edition : List ℕ → Scan (Unit {0} × ℕ)
-capped_edition text = pair_scan (word_scan name) (capped_scan newline) text
-
-abbrev capping : Scan (Unit {0} × ℕ) → Scan (Unit {0} × ℕ)
-capping x = then_scan x λ p rest. found (p.0, capped p.1) rest
-
-capped_edition_law : (text : List ℕ) → capped_edition text ≡ capping (edition_scan text)
-unfolding edition_scan pair_scan capped_scan
-capped_edition_law text = go (word_scan name text)
-  where
-    number : (u : Unit {0}) (x : Scan ℕ) → ◌≡◌ {A = Scan (Unit {0} × ℕ)} (then_scan (then_scan x (λ n rest. found (capped n) rest)) (λ n rest. found (u, n) rest)) (capping (then_scan x (λ n rest. found (u, n) rest)))
-    number u missing = refl
-    number u (found n rest) = refl
-
-    go : (x : Scan (Unit {0})) → ◌≡◌ {A = Scan (Unit {0} × ℕ)} (then_scan x (λ u rest. then_scan (then_scan (number_scan newline rest) (λ n rest. found (capped n) rest)) (λ n rest. found (u, n) rest))) (capping (then_scan x (λ u rest. then_scan (number_scan newline rest) (λ n rest. found (u, n) rest))))
-    go missing = refl
-    go (found u rest) = number u (number_scan newline rest)
-
--- the edition that was read: none, another, or this one
-module _ (text : List ℕ) {f g : Bool} {m v n : ℕ} (word : Scans (word_scan (ascii "pads\t")) text 0 f tt m) (number : Scans (capped_scan newline) text m g v n) where
-  seen : scanned {A = Unit {0} × ℕ} g (tt, v) (drop n text) ≡ capping (edition_scan text)
-  unfolding capped_scan number_scan
-  seen = (pair_scanned refl word number).so ∙ capped_edition_law text
-
-  pub edition_missing : (ports : List Port) → g ≡ false → ◌≡◌ {A = Restoring} (record { answer = refused_at refusals.broken_line 1; ports = ports }) (restore_ports ports text)
-  unfolding restore_ports read_store
-  edition_missing ports e = go (edition_scan text) (ap (λ (b : Bool). scanned {A = Unit {0} × ℕ} b (tt, v) (drop n text)) (sym e) ∙ seen)
-    where
-      go : (x : Scan (Unit {0} × ℕ)) → missing ≡ capping x → ◌≡◌ {A = Restoring} (record { answer = refused_at refusals.broken_line 1; ports = ports }) (restored_by ports (by_edition x))
-      go missing z = refl
-      go (found p rest) z = absurd (not_missing (sym z))
-
-  pub edition_other : (ports : List Port) → g ≡ true → (v ≡ edition → ⊥) → ◌≡◌ {A = Restoring} (record { answer = refused refusals.other_edition; ports = ports }) (restore_ports ports text)
-  unfolding restore_ports read_store
-  edition_other ports e differs = go (edition_scan text) (ap (λ (b : Bool). scanned {A = Unit {0} × ℕ} b (tt, v) (drop n text)) (sym e) ∙ seen)
-    where
-      go : (x : Scan (Unit {0} × ℕ)) → ◌≡◌ {A = Scan (Unit {0} × ℕ)} (found (tt, v) (drop n text)) (capping x) → ◌≡◌ {A = Restoring} (record { answer = refused refusals.other_edition; ports = ports }) (restored_by ports (by_edition x))
-      go missing z = absurd (not_missing z)
-      go (found p rest) z =
-          let is : v ≡ capped p.1 = ap (λ (q : Unit {0} × ℕ). q.1) (same_value z) in
-          simp (ne_eqb p.1 edition (λ y. differs (is ∙ ap capped y ∙ capped_small edition (omega arith))))
-
-  pub edition_same : (ports : List Port) {o : Restoring} → g ≡ true → v ≡ edition → o ≡ restored_by ports (devices_in device_count 1 2 (drop n text)) → o ≡ restore_ports ports text
-  unfolding restore_ports read_store
-  edition_same ports {o} e same read = read ∙ go (edition_scan text) (ap (λ (b : Bool). scanned {A = Unit {0} × ℕ} b (tt, v) (drop n text)) (sym e) ∙ seen)
-    where
-      go : (x : Scan (Unit {0} × ℕ)) → ◌≡◌ {A = Scan (Unit {0} × ℕ)} (found (tt, v) (drop n text)) (capping x) → restored_by ports (devices_in device_count 1 2 (drop n text)) ≡ restored_by ports (by_edition x)
-      go missing z = absurd (not_missing z)
-      go (found p rest) z =
-          let is : p.1 ≡ v = capped_is p.1 v 1 (sym (ap (λ (q : Unit {0} × ℕ). q.1) (same_value z))) (omega (arith, same)) (omega arith) in
-          simp (eq-eqb p.1 edition (is ∙ same)) (ap (λ (t : List ℕ). restored_by ports (devices_in device_count 1 2 t)) (same_rest z))
+pub edition_same : (x : Scan (Unit {0} × ℕ)) {v : ℕ} {rest : List ℕ} → found v rest ≡ then_scan x (λ p rest. found (capped p.1) rest) → v ≡ edition → devices_in device_count 1 2 rest ≡ by_edition x
+edition_same missing e same = absurd (not_missing e)
+edition_same (found p t) {v} {rest} e same =
+    let is : p.1 ≡ v = capped_is p.1 v 1 (sym (same_value e)) (omega (arith, same)) (omega arith) in
+    simp (eq-eqb p.1 edition (is ∙ same)) (ap (devices_in device_count 1 2) (same_rest e))

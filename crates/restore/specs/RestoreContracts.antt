@@ -1,21 +1,30 @@
 -- Helpers of contracts: what the program read, in the terms of the rules.
-use Rattle.std.specs.Prelude.{ℕ, ◌≤◌, ◌≡◌, List, drop}
+use Rattle.std.specs.Prelude.{ℕ, List, Result, Ok, Err, Option, Some, None}
 use Rattle.report.specs.ReportContracts.{number_of}
 use Rattle.port.specs.declared.Port.{Port}
-use Rattle.restore.specs.declared.Restored.{Restored}
-use Rattle.restore.specs.declared.Restored.TheVariants.{Done, Refused, RefusedAt}
+use Rattle.scan.specs.Scans.{Scan, found, then_scan}
+use Rattle.scan.specs.ScanContracts.{capped}
+use Rattle.restore.specs.declared.NotRestored.{NotRestored}
 use Rattle.restore.specs.declared.Restoring as program
 use Rattle.restore.specs.Restoring as rules
 
-abbrev pub restored_of : Restored → rules.RestoreAnswer
-restored_of Done = rules.restored
-restored_of (Refused r) = rules.refused (number_of r)
-restored_of (RefusedAt r line) = rules.refused_at (number_of r) line
+-- a refusal, with a line or without
+abbrev pub refused_by : (number : ℕ) → Option ℕ → rules.RestoreAnswer
+refused_by number None = rules.refused number
+refused_by number (Some line) = rules.refused_at number line
+
+abbrev pub restored_of : Result (Unit {0}) NotRestored → rules.RestoreAnswer
+restored_of (Ok _) = rules.restored
+restored_of (Err e) = refused_by (number_of e.refusal) e.line
 
 abbrev pub restoring_of : program.Restoring → rules.Restoring
 restoring_of r = record { answer = restored_of r.answer; ports = r.ports }
 
--- a device in the text from an offset on
-pub record Rows (number : ℕ) (text : List ℕ) (at : ℕ) (port : Port) (next lines : ℕ) : Type 0 where
-  pub so : ◌≡◌ {A = rules.Row} (record { port = port; rest = drop next text; lines = lines }) (rules.row_in number (drop at text))
-  pub one : lines ≤ 1
+-- the answer to a read of these ports, and the ports after it
+abbrev pub restoring_by : List Port → Result (List Port) NotRestored → rules.Restoring
+restoring_by ports (Ok next) = record { answer = rules.restored; ports = next }
+restoring_by ports (Err e) = record { answer = refused_by (number_of e.refusal) e.line; ports = ports }
+
+-- the first line, with its number as the program takes it
+abbrev pub capped_edition : List ℕ → Scan ℕ
+capped_edition text = then_scan (rules.edition_scan text) λ p rest. found (capped p.1) rest

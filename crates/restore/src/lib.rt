@@ -1,13 +1,14 @@
 // Reading a store: the paired devices from text that a console kept.
 #![tactic(auto)]
 
-ghost use Rattle.std.specs.Prelude.{◌≡◌, ◌<◌, drop};
+ghost use Rattle.std.specs.Prelude.{◌≡◌, ◌<◌, List};
 ghost use Rattle.report.specs.Ports.{device_count};
 ghost use Rattle.port.specs.Records.{feature_count};
-ghost use Rattle.scan.specs.ScanContracts.{Scans};
+ghost use Rattle.port.specs.declared.Port.{Port};
+ghost use Rattle.scan.specs.ScanContracts.{scan_of};
 ghost use Rattle.store.specs.Stores.{pad_port};
-ghost use Rattle.restore.specs.Restoring.{stop_after, indexes_scan, device_scan, devices_in, restored_by, restore_ports};
-ghost use Rattle.restore.specs.RestoreContracts.{restoring_of, Rows};
+ghost use Rattle.restore.specs.Restoring.{stop_after, indexes_scan, device_scan, devices_in, restored_by, read_store, restore_ports};
+ghost use Rattle.restore.specs.RestoreContracts.{restoring_of, restoring_by, capped_edition};
 
 use port::{Port, Serial, Version};
 use report::{FeatureIndex, Refusal};
@@ -16,45 +17,20 @@ use report::{FeatureIndex, Refusal};
 const DEVICES: usize = report::DEVICES as usize;
 
 // The edition that is read.
-const EDITION: u32 = 1;
+const EDITION: u16 = 1;
 
-// The answer to a read: restored; refused with 15; or refused with 16, and the number of the first line that breaks the rules.
+// Why a text was not restored: refusal 15; or refusal 16, and the number of the first line that breaks the rules.
 #[derive(Clone, Copy)]
-pub enum Restored {
-    Done,
-    Refused(Refusal),
-    RefusedAt(Refusal, u8),
+pub struct NotRestored {
+    pub refusal: Refusal,
+    pub line: Option<u8>,
 }
 
-// The answer, and the ports after the read.
+// The answer to a read, and the ports after it.
 #[derive(Clone, Copy)]
 pub struct Restoring {
-    pub answer: Restored,
+    pub answer: Result<(), NotRestored>,
     pub ports: [Port; port::PORTS],
-}
-
-// The indexes of the known features. Where they were not found, `next` is the end of the text.
-#[derive(Clone, Copy)]
-struct IndexesField {
-    found: bool,
-    features: [FeatureIndex; port::FEATURES],
-    next: usize,
-}
-
-// What a line says of a device after its number.
-#[derive(Clone, Copy)]
-struct PadField {
-    found: bool,
-    port: Port,
-    next: usize,
-}
-
-// A device in the text: its port, the offset after its line, and 1; or, where it is not there, a fresh port, the same offset and 0.
-#[derive(Clone, Copy)]
-struct Row {
-    port: Port,
-    next: usize,
-    lines: u8,
 }
 
 // The byte after the index at a position.
@@ -63,34 +39,29 @@ fn stop_after(position: usize) -> u8
     ensures { result ≡ stop_after position }
 {
     if position + 1 < port::FEATURES {
-        return text::TAB;
+        text::TAB
+    } else {
+        text::NEWLINE
     }
-    text::NEWLINE
 }
 
-fn scan_indexes(text: &[u8], at: usize) -> IndexesField
-    ensures { Scans (indexes_scan feature_count) text.now at result.found result.features result.next }
+// The indexes of the known features.
+#[tactic(auto, using(crate::proofs::RestoringLaws::indexes_begun, crate::proofs::RestoringLaws::index_missing, crate::proofs::RestoringLaws::indexes_done))]
+fn scan_indexes(text: &[u8]) -> Option<([FeatureIndex; port::FEATURES], &[u8])>
+    ensures { scan_of result ≡ indexes_scan feature_count text.now }
 {
-    let none = FeatureIndex(0);
-    let mut features = [none; port::FEATURES];
-    let mut found = true;
-    let mut next = at;
-    let mut i = 0;
-    while i < port::FEATURES {
-        let index = scan::scan_decimal(text, next, port::MAX_INDEX, stop_after(i));
-        features[i] = FeatureIndex(index.value as u8);
-        found = index.found;
-        next = index.next;
-        i += 1;
+    let mut features = [FeatureIndex(0); port::FEATURES];
+    let mut rest = text;
+    for i in 0..port::FEATURES {
+        let (index, after) = scan::scan_decimal(rest, port::MAX_INDEX, stop_after(i))?;
+        features[i] = FeatureIndex(index);
+        rest = after;
     }
-    IndexesField {
-        found,
-        features,
-        next,
-    }
+    Some((features, rest))
 }
 
 // A paired device of which these are known.
+#[tactic(auto, unfolding(store::specs::Stores::pad_port, port::specs::Records::fresh_port))]
 fn pad_port(
     wpid: u16,
     serial: Serial,
@@ -100,111 +71,103 @@ fn pad_port(
 ) -> Port
     ensures { result ≡ pad_port wpid serial reports version features }
 {
-    let fresh = port::fresh();
-    let battery = fresh.battery;
-    let places = fresh.places;
     Port {
         paired: true,
         wpid,
         reports,
-        up: false,
         version,
         features,
-        battery,
         serial,
-        places,
+        ..port::fresh()
     }
 }
 
 // The line of the device of a number.
-fn scan_device(text: &[u8], at: usize, number: u8) -> PadField
+#[tactic(auto, unfolding(crate::specs::Restoring::device_scan, crate::specs::Restoring::pad_scan, scan::specs::Scans::pair_scan), using(crate::proofs::RestoringLaws::device_word))]
+fn scan_device(text: &[u8], number: u8) -> Option<(Port, &[u8])>
     requires { number < 10 }
-    ensures { Scans (device_scan number) text.now at result.found result.port result.next }
+    ensures { scan_of result ≡ device_scan number text.now }
 {
-    let word = [b'0' + number, text::TAB];
-    let name = scan::scan_word(text, at, &word);
-    let wpid = scan::scan_hex16(text, name.next, text::TAB);
-    let serial = scan::scan_serial(text, wpid.next, text::TAB);
-    let reports = scan::scan_hex32(text, serial.next, text::TAB);
-    let version = scan::scan_version(text, reports.next, text::TAB);
-    let indexes = scan_indexes(text, version.next);
-    let known = version.version;
-    let told = serial.serial;
-    let features = indexes.features;
-    PadField {
-        found: indexes.found,
-        port: pad_port(wpid.value as u16, told, reports.value, known, features),
-        next: indexes.next,
+    let text = scan::scan_word(text, &[b'0' + number, text::TAB])?;
+    let (wpid, text) = scan::scan_hex16(text, text::TAB)?;
+    let (serial, text) = scan::scan_serial(text, text::TAB)?;
+    let (reports, text) = scan::scan_hex32(text, text::TAB)?;
+    let (version, text) = scan::scan_version(text, text::TAB)?;
+    let (features, text) = scan_indexes(text)?;
+    Some((pad_port(wpid, serial, reports, version, features), text))
+}
+
+// The first line: "pads", a tab and the edition.
+#[tactic(auto, unfolding(crate::specs::Restoring::edition_scan, scan::specs::Scans::pair_scan, scan::specs::ScanContracts::capped_scan))]
+fn scan_edition(text: &[u8]) -> Option<(u16, &[u8])>
+    ensures { scan_of result ≡ capped_edition text.now }
+{
+    scan::scan_number(scan::scan_word(text, b"pads\t")?, text::NEWLINE)
+}
+
+// A line of this number is the first that breaks the rules.
+fn broken(line: u8) -> NotRestored
+    ensures { result ≡ record { refusal = Refusal.BrokenLine; line = Some line } }
+{
+    NotRestored {
+        refusal: Refusal::BrokenLine,
+        line: Some(line),
     }
 }
 
-// A device in the text, or not.
-fn read_row(text: &[u8], at: usize, number: u8) -> Row
-    requires { number < 10 }
-    ensures { Rows number text.now at result.port result.next result.lines }
+// The lines of the devices, from the second line of the text on.
+#[tactic(auto, using(crate::proofs::RestoringLaws::devices_begun, crate::proofs::RestoringLaws::device_absent, crate::proofs::RestoringLaws::devices_broken, crate::proofs::RestoringLaws::devices_done))]
+fn read_devices(text: &[u8]) -> Result<[Port; port::PORTS], NotRestored>
+    ensures { (ports : List Port) → restoring_by ports result ≡ restored_by ports (devices_in device_count 1 2 text.now) }
 {
-    let pad = scan_device(text, at, number);
-    if pad.found {
-        let port = pad.port;
-        return Row {
-            port,
-            next: pad.next,
-            lines: 1,
+    let mut ports = [port::fresh(); port::PORTS];
+    let mut line = 2;
+    let mut rest = text;
+    for i in 0..DEVICES {
+        let Some((port, after)) = scan_device(rest, (i + 1) as u8) else {
+            continue;
         };
+        ports[i] = port;
+        line += 1;
+        rest = after;
     }
-    Row {
-        port: port::fresh(),
-        next: at,
-        lines: 0,
+    if rest.is_empty() {
+        Ok(ports)
+    } else {
+        Err(broken(line))
     }
 }
 
-// Reads the lines of the devices, from the second line of the text on.
-fn read_devices(ports: [Port; port::PORTS], text: &[u8], at: usize) -> Restoring
-    ensures { restoring_of result ≡ restored_by ports (devices_in device_count 1 2 (drop at text.now)) }
+// The whole text.
+#[tactic(auto, unfolding(crate::specs::Restoring::read_store), using(crate::proofs::RestoringLaws::edition_other, crate::proofs::RestoringLaws::edition_same))]
+fn read_store(text: &[u8]) -> Result<[Port; port::PORTS], NotRestored>
+    ensures { (ports : List Port) → restoring_by ports result ≡ restored_by ports (read_store text.now) }
 {
-    let fresh = port::fresh();
-    let mut read = [fresh; port::PORTS];
-    let mut line: u8 = 2;
-    let mut next = at;
-    let mut i = 0;
-    while i < DEVICES {
-        let row = read_row(text, next, (i + 1) as u8);
-        let port = row.port;
-        read[i] = port;
-        line = line + row.lines;
-        next = row.next;
-        i += 1;
+    let Some((edition, text)) = scan_edition(text) else {
+        return Err(broken(1));
+    };
+    if edition != EDITION {
+        return Err(NotRestored {
+            refusal: Refusal::OtherEdition,
+            line: None,
+        });
     }
-    if next < text.len() {
-        return Restoring {
-            answer: Restored::RefusedAt(Refusal::BrokenLine, line),
-            ports,
-        };
-    }
-    Restoring {
-        answer: Restored::Done,
-        ports: read,
-    }
+    read_devices(text)
 }
 
 // Reads a store: the ports are those of the store, or stay as they were, refused with 15, or with 16 and the number of a line.
+#[tactic(auto, unfolding(crate::specs::Restoring::restore_ports))]
 pub fn restore(ports: [Port; port::PORTS], text: &[u8]) -> Restoring
     ensures read { restoring_of result ≡ restore_ports ports text.now }
 {
-    let name = scan::scan_word(text, 0, b"pads\t");
-    let edition = scan::scan_number(text, name.next, text::NEWLINE);
-    if !edition.found {
-        return Restoring {
-            answer: Restored::RefusedAt(Refusal::BrokenLine, 1),
+    match read_store(text) {
+        Ok(ports) => Restoring {
+            answer: Ok(()),
             ports,
-        };
-    }
-    if edition.value != EDITION {
-        return Restoring {
-            answer: Restored::Refused(Refusal::OtherEdition),
+        },
+        Err(reason) => Restoring {
+            answer: Err(reason),
             ports,
-        };
+        },
     }
-    read_devices(ports, text, edition.next)
 }

@@ -1,22 +1,17 @@
 -- Helpers of contracts: what the program found, in the terms of the rules.
-use Rattle.std.specs.Prelude.{ℕ, ◌≡◌, Bool, true, false, cond, List, [], ◌∷◌, ltb, eqb, length, drop}
+use Rattle.std.specs.Prelude.{ℕ, cond, List, ltb, Option, Some, None}
+use Rattle.std.specs.Borrow.{Bor}
 use Rattle.scan.specs.Scans.{Scan, missing, found, then_scan, Run, number_scan, capital_digit}
 
 -- a value, and the text after it, or nothing
-abbrev pub scanned : {A : Type 0} → Bool → A → List ℕ → Scan A
-scanned true value rest = found value rest
-scanned false value rest = missing
+abbrev pub scan_of : {A : Type 0} → Option (A × Bor (List ℕ)) → Scan A
+scan_of None = missing
+scan_of (Some p) = found p.0 p.1.now
 
--- what a rule finds in the text from an offset on: the value and the offset after it; where it finds nothing, the offset is the end of the text
-pub record Scans {A : Type 0} (rule : List ℕ → Scan A) (text : List ℕ) (at : ℕ) (is_found : Bool) (value : A) (next : ℕ) : Type 0 where
-  pub so : scanned is_found value (drop next text) ≡ rule (drop at text)
-  pub end : is_found ≡ false → next ≡ length text
-
--- nothing found: the value is 0, and the offset is the end of the text
-pub record Nothing (text : List ℕ) (is_found : Bool) (value next : ℕ) : Type 0 where
-  pub none : is_found ≡ false
-  pub zero : value ≡ 0
-  pub end : next ≡ length text
+-- the text after what says no value, or nothing
+abbrev pub after_of : Option (Bor (List ℕ)) → Scan (Unit {0})
+after_of None = missing
+after_of (Some rest) = found tt rest.now
 
 -- a number that is too large for every field: the program takes all such numbers for one
 abbrev pub too_large : ℕ
@@ -28,17 +23,10 @@ capped n = cond (ltb n too_large) n too_large
 unfoldable pub capped_scan : (stop : ℕ) → List ℕ → Scan ℕ
 capped_scan stop text = then_scan (number_scan stop text) λ n rest. found (capped n) rest
 
--- digits that the program went over: the number, too large or not, and the offset after them
-pub record Runs (run : Run) (text : List ℕ) (value next : ℕ) : Type 0 where
-  pub counted : value ≡ capped run.value
-  pub so : drop next text ≡ run.rest
+-- digits that the program went over: the number, too large or not, and the text after them
+abbrev pub capped_run : Run → ℕ × List ℕ
+capped_run run = (capped run.value, run.rest)
 
--- whether the text begins with this byte
-unfoldable pub front_is : ℕ → List ℕ → Bool
-front_is byte [] = false
-front_is byte (c ∷ text) = eqb c byte
-
--- the value of the digit at the front
-unfoldable pub front_digit : List ℕ → ℕ
-front_digit [] = 16
-front_digit (c ∷ text) = capital_digit c
+-- the value of a digit, or nothing where the byte is none
+abbrev pub digit_value : ℕ → Option ℕ
+digit_value c = cond (ltb (capital_digit c) 16) (Some (capital_digit c)) None

@@ -1,272 +1,169 @@
-// Numbers and what a port holds, read from the front of a part of a lent text. Each function is given the text and an offset, and looks at no byte before it.
+// Numbers and what a port holds, read from the front of a lent text. Each function gives what it found and the text after it, or None.
 #![tactic(auto)]
 
-ghost use Rattle.std.specs.Prelude.{◌≡◌, true, ◌+◌, ◌*◌, ◌^◌, ◌≤◌, ◌<◌, length, drop};
+ghost use Rattle.std.specs.Prelude.{◌≡◌, ◌+◌, ◌*◌, ◌^◌, ◌≤◌, ◌<◌, IfSome};
 ghost use Rattle.text.specs.Texts.{digits16, digits32};
-ghost use Rattle.scan.specs.Scans.{word_scan, stopped, run_after, decimal_scan, capital_digit, hex_scan, serial_scan, version_scan};
-ghost use Rattle.scan.specs.ScanContracts.{Scans, Nothing, too_large, capped, capped_scan, Runs, front_is, front_digit};
+ghost use Rattle.scan.specs.Scans.{word_scan, stopped, run_after, decimal_scan, digit_more, digits_scan, hex_scan, serial_scan, version_scan};
+ghost use Rattle.scan.specs.ScanContracts.{scan_of, after_of, too_large, capped, capped_scan, capped_run, digit_value};
 
 use port::{Serial, Version};
 
-// Stands for every number that is larger than any field may hold.
+// Stands for every number that is larger than any field may hold: `capped_scan`, which `scan_number` promises, has it so.
 const TOO_LARGE: u16 = 1000;
 
-// No hexadecimal digit.
-const NO_DIGIT: u8 = 16;
-
-const UNKNOWN: u8 = b'-';
-
-const POINT: u8 = b'.';
-
-const BYTE_LAST: u8 = 255;
-
-// What was found: a number, and the offset after it and after the byte that ends it. Where nothing was found, the offset is the end of the text, and the number 0.
-#[derive(Clone, Copy)]
-pub struct Field {
-    pub found: bool,
-    pub value: u32,
-    pub next: usize,
-}
-
-#[derive(Clone, Copy)]
-pub struct SerialField {
-    pub found: bool,
-    pub serial: Serial,
-    pub next: usize,
-}
-
-#[derive(Clone, Copy)]
-pub struct VersionField {
-    pub found: bool,
-    pub version: Version,
-    pub next: usize,
-}
-
-// A number as far as it matters, and the offset after its digits.
-#[derive(Clone, Copy)]
-struct Digits {
-    value: u16,
-    next: usize,
-}
-
-// Nothing is found.
-fn not_found(text: &[u8]) -> Field
-    ensures { Nothing text.now result.found result.value result.next }
-{
-    Field {
-        found: false,
-        value: 0,
-        next: text.len(),
-    }
-}
-
-// Whether this byte comes next.
-fn is_at(text: &[u8], at: usize, byte: u8) -> bool
-    ensures front { result ≡ front_is byte (drop at text.now) }
-    ensures within { result ≡ true → at < length text.now }
-{
-    if at >= text.len() {
-        return false;
-    }
-    text[at] == byte
-}
-
 // A value that was read, if this byte comes next.
-fn stop_at(text: &[u8], at: usize, stop: u8, value: u32) -> Field
-    ensures found { Scans (stopped stop value) text.now at result.found result.value result.next }
-    ensures most { result.value ≤ value }
+#[tactic(auto, unfolding(crate::specs::Scans::stopped))]
+fn stopped<T: Drop>(value: T, text: &[u8], stop: u8) -> Option<(T, &[u8])>
+    ensures { scan_of result ≡ stopped stop value text.now }
 {
-    if is_at(text, at, stop) {
-        return Field {
-            found: true,
-            value,
-            next: at + 1,
-        };
+    match text {
+        [c, text @ ..] if *c == stop => Some((value, text)),
+        _ => None,
     }
-    not_found(text)
 }
 
-// The bytes of a word. The value is 0.
-pub fn scan_word(text: &[u8], at: usize, word: &[u8]) -> Field
-    ensures found { Scans (word_scan word.now) text.now at result.found tt result.next }
+// The bytes of a word.
+#[tactic(auto, using(crate::proofs::ScansLaws::word_stripped))]
+pub fn scan_word<'a>(text: &'a [u8], word: &[u8]) -> Option<&'a [u8]>
+    ensures found { after_of result ≡ word_scan word.now text.now }
 {
-    let mut next = at;
-    let mut i = 0;
-    while i < word.len() {
-        if !is_at(text, next, word[i]) {
-            return not_found(text);
-        }
-        next += 1;
-        i += 1;
-    }
-    Field {
-        found: true,
-        value: 0,
-        next,
-    }
+    text.strip_prefix(word)
 }
 
 // One digit more; every number from TOO_LARGE on is the same.
+#[tactic(auto, unfolding(crate::specs::ScanContracts::capped))]
 fn grown(value: u16, digit: u8) -> u16
     requires value { value ≤ too_large }
     requires digit { digit ≤ 9 }
     ensures { result ≡ capped (value * 10 + digit) }
 {
-    let next = value * 10 + digit as u16;
-    if next < TOO_LARGE {
-        return next;
-    }
-    TOO_LARGE
+    (value * 10 + digit as u16).min(TOO_LARGE)
 }
 
-// Goes over digits, after those that came to `first`.
-fn digits_after(text: &[u8], at: usize, first: u16) -> Digits
-    requires { first < too_large }
-    ensures { Runs (run_after first (drop at text.now)) text.now result.value result.next }
+// Goes over the digits that come next.
+#[tactic(auto, using(crate::proofs::ScansLaws::run_begun, crate::proofs::ScansLaws::run_more))]
+fn digits_after(text: &[u8]) -> (u16, &[u8])
+    ensures { (result.0, result.1.now) ≡ capped_run (run_after 0 text.now) }
 {
-    let mut value = first;
-    let mut next = at;
-    while next < text.len() {
-        let c = text[next];
-        if !report::within(b'0', c, b'9') {
-            return Digits { value, next };
-        }
-        value = grown(value, c - b'0');
-        next += 1;
+    let mut value = 0;
+    let mut after = text;
+    while let [c @ b'0'..=b'9', rest @ ..] = after {
+        value = grown(value, *c - b'0');
+        after = rest;
     }
-    Digits { value, next }
+    (value, after)
 }
 
 // A decimal number of any length without a leading zero, and the byte after it; TOO_LARGE stands for it from TOO_LARGE on.
-pub fn scan_number(text: &[u8], at: usize, stop: u8) -> Field
-    ensures found { Scans (capped_scan stop) text.now at result.found result.value result.next }
+#[tactic(auto, unfolding(crate::specs::Scans::number_scan, crate::specs::ScanContracts::capped_scan), using(crate::proofs::ScansLaws::number_zero, crate::proofs::ScansLaws::number_run))]
+pub fn scan_number(text: &[u8], stop: u8) -> Option<(u16, &[u8])>
+    ensures found { scan_of result ≡ capped_scan stop text.now }
 {
-    if at >= text.len() {
-        return not_found(text);
+    match text {
+        [b'0', text @ ..] => stopped(0, text, stop),
+        [b'1'..=b'9', ..] => {
+            let (value, text) = digits_after(text);
+            stopped(value, text, stop)
+        }
+        _ => None,
     }
-    let c = text[at];
-    if c == b'0' {
-        return stop_at(text, at + 1, stop, 0);
-    }
-    if !report::within(b'0', c, b'9') {
-        return not_found(text);
-    }
-    let digits = digits_after(text, at + 1, (c - b'0') as u16);
-    stop_at(text, digits.next, stop, digits.value as u32)
 }
 
 // A decimal number without a leading zero that is at most `most`, and the byte after it.
-pub fn scan_decimal(text: &[u8], at: usize, most: u8, stop: u8) -> Field
-    ensures found { Scans (decimal_scan most stop) text.now at result.found result.value result.next }
-    ensures most { result.value ≤ most }
+#[tactic(auto, unfolding(crate::specs::Scans::decimal_scan, crate::specs::ScanContracts::capped_scan, crate::specs::ScanContracts::capped))]
+pub fn scan_decimal(text: &[u8], most: u8, stop: u8) -> Option<(u8, &[u8])>
+    ensures found { scan_of result ≡ decimal_scan most stop text.now }
+    ensures most { IfSome result (λ read. read.0 ≤ most) }
 {
-    let number = scan_number(text, at, stop);
-    if !number.found {
-        return not_found(text);
+    let (value, text) = scan_number(text, stop)?;
+    if value <= most as u16 {
+        Some((value as u8, text))
+    } else {
+        None
     }
-    if number.value <= most as u32 {
-        return number;
-    }
-    not_found(text)
 }
 
 // The value of a hexadecimal digit in capitals.
-fn capital_digit(c: u8) -> u8
-    ensures { result ≡ capital_digit c }
+#[tactic(auto, unfolding(crate::specs::Scans::capital_digit))]
+fn capital_digit(c: u8) -> Option<u8>
+    ensures { result ≡ digit_value c }
 {
-    if report::within(b'0', c, b'9') {
-        return c - b'0';
+    match c {
+        b'0'..=b'9' => Some(c - b'0'),
+        b'A'..=b'F' => Some(c - b'A' + 10),
+        _ => None,
     }
-    if report::within(b'A', c, b'F') {
-        return c - b'A' + 10;
-    }
-    NO_DIGIT
 }
 
-// The value of the digit that comes next.
-fn digit_at(text: &[u8], at: usize) -> u8
-    ensures front { result ≡ front_digit (drop at text.now) }
-    ensures within { result < 16 → at < length text.now }
+// One digit more, after those that came to `value`.
+#[tactic(auto, unfolding(crate::specs::Scans::digit_more))]
+fn digit_more(value: u32, text: &[u8]) -> Option<(u32, &[u8])>
+    requires { value * 16 + 15 < 2 ^ 32 }
+    ensures found { scan_of result ≡ digit_more value text.now }
+    ensures small { IfSome result (λ read. read.0 ≤ value * 16 + 15) }
 {
-    if at >= text.len() {
-        return NO_DIGIT;
-    }
-    capital_digit(text[at])
+    let (c, text) = text.split_first()?;
+    Some((value * 16 + capital_digit(*c)? as u32, text))
 }
 
-// Hexadecimal in capitals at a fixed width, and the byte after it.
-fn scan_hex(text: &[u8], at: usize, width: u8, stop: u8) -> Field
+// Hexadecimal in capitals at a fixed width.
+#[tactic(auto, unfolding(crate::specs::Scans::digits_scan), using(crate::proofs::ScansLaws::digits_more, crate::proofs::ScansLaws::digits_missing, crate::proofs::ScansLaws::digit_small))]
+fn scan_digits(text: &[u8], width: u8) -> Option<(u32, &[u8])>
     requires { width ≤ digits32 }
-    ensures found { Scans (hex_scan width stop) text.now at result.found result.value result.next }
-    ensures small { result.value < 16 ^ width }
+    ensures found { scan_of result ≡ digits_scan width text.now }
+    ensures small { IfSome result (λ read. read.0 < 16 ^ width) }
 {
     let mut value: u32 = 0;
-    let mut next = at;
-    let mut i: u8 = 0;
-    while i < width {
-        let digit = digit_at(text, next);
-        if digit >= NO_DIGIT {
-            return not_found(text);
-        }
-        value = value * 16 + digit as u32;
-        next += 1;
-        i += 1;
+    let mut rest = text;
+    for _ in 0..width {
+        (value, rest) = digit_more(value, rest)?;
     }
-    stop_at(text, next, stop, value)
+    Some((value, rest))
 }
 
-// A number of 16 bits.
-pub fn scan_hex16(text: &[u8], at: usize, stop: u8) -> Field
-    ensures found { Scans (hex_scan digits16 stop) text.now at result.found result.value result.next }
-    ensures small { result.value < 65536 }
+// A number of 16 bits, and the byte after it. It and the next are no one function over the width: no public function has a `requires`, and nine digits would overflow.
+#[tactic(auto, unfolding(crate::specs::Scans::hex_scan))]
+pub fn scan_hex16(text: &[u8], stop: u8) -> Option<(u16, &[u8])>
+    ensures found { scan_of result ≡ hex_scan digits16 stop text.now }
 {
-    scan_hex(text, at, text::DIGITS_16, stop)
+    let (value, text) = scan_digits(text, text::DIGITS_16)?;
+    stopped(value as u16, text, stop)
 }
 
-// A number of 32 bits.
-pub fn scan_hex32(text: &[u8], at: usize, stop: u8) -> Field
-    ensures found { Scans (hex_scan digits32 stop) text.now at result.found result.value result.next }
+// A number of 32 bits, and the byte after it.
+#[tactic(auto, unfolding(crate::specs::Scans::hex_scan))]
+pub fn scan_hex32(text: &[u8], stop: u8) -> Option<(u32, &[u8])>
+    ensures found { scan_of result ≡ hex_scan digits32 stop text.now }
 {
-    scan_hex(text, at, text::DIGITS_32, stop)
+    let (value, text) = scan_digits(text, text::DIGITS_32)?;
+    stopped(value, text, stop)
 }
 
 // A serial, or "-".
-pub fn scan_serial(text: &[u8], at: usize, stop: u8) -> SerialField
-    ensures found { Scans (serial_scan stop) text.now at result.found result.serial result.next }
+#[tactic(auto, unfolding(crate::specs::Scans::serial_scan, crate::specs::Scans::known_serial, crate::specs::Scans::hex_scan, crate::specs::Scans::digits_scan, crate::specs::Scans::digit_more))]
+pub fn scan_serial(text: &[u8], stop: u8) -> Option<(Serial, &[u8])>
+    ensures found { scan_of result ≡ serial_scan stop text.now }
 {
-    if is_at(text, at, UNKNOWN) {
-        let end = stop_at(text, at + 1, stop, 0);
-        return SerialField {
-            found: end.found,
-            serial: Serial::Unknown,
-            next: end.next,
-        };
-    }
-    let number = scan_hex32(text, at, stop);
-    SerialField {
-        found: number.found,
-        serial: Serial::Known(number.value),
-        next: number.next,
+    match text {
+        [b'-', text @ ..] => stopped(Serial::Unknown, text, stop),
+        _ => {
+            let (number, text) = scan_hex32(text, stop)?;
+            Some((Serial::Known(number), text))
+        }
     }
 }
 
 // A version, or "-".
-pub fn scan_version(text: &[u8], at: usize, stop: u8) -> VersionField
-    ensures found { Scans (version_scan stop) text.now at result.found result.version result.next }
+#[tactic(auto, unfolding(crate::specs::Scans::version_scan, crate::specs::Scans::known_version, crate::specs::Scans::pair_scan, crate::specs::Scans::decimal_scan, crate::specs::Scans::number_scan))]
+pub fn scan_version(text: &[u8], stop: u8) -> Option<(Version, &[u8])>
+    ensures found { scan_of result ≡ version_scan stop text.now }
 {
-    if is_at(text, at, UNKNOWN) {
-        let end = stop_at(text, at + 1, stop, 0);
-        return VersionField {
-            found: end.found,
-            version: Version::Unknown,
-            next: end.next,
-        };
-    }
-    let major = scan_decimal(text, at, BYTE_LAST, POINT);
-    let minor = scan_decimal(text, major.next, BYTE_LAST, stop);
-    VersionField {
-        found: minor.found,
-        version: Version::Known(major.value as u8, minor.value as u8),
-        next: minor.next,
+    match text {
+        [b'-', text @ ..] => stopped(Version::Unknown, text, stop),
+        _ => {
+            let (major, text) = scan_decimal(text, u8::MAX, b'.')?;
+            let (minor, text) = scan_decimal(text, u8::MAX, stop)?;
+            Some((Version::Known(major, minor), text))
+        }
     }
 }

@@ -14,7 +14,7 @@ use port::answer::{Notice, Taken};
 use port::waiting::Cancelled;
 use port::{Port, waiting};
 use report::{Device, FeatureIndex, Reading, Refusal};
-use restore::Restored;
+use restore::NotRestored;
 use serial::Given;
 
 // Devices 1 to 6 at positions 0 to 5, and the receiver at the last.
@@ -54,7 +54,7 @@ pub struct TickResult {
 // What reading a store gives: its answer, and the next station.
 #[derive(Clone, Copy)]
 pub struct RestoreResult {
-    pub answer: Restored,
+    pub answer: Result<(), NotRestored>,
     pub station: Station,
 }
 

@@ -1,11 +1,12 @@
 -- `restore::scan_indexes` meets its contract: the first i indexes have been read.
-use Prim.Native.Nat.{◌-◌}
+use Rattle.std.proofs.Common.{◌≡◌, length, take}
 use Rattle.port.specs.Records.{feature_count}
-use Rattle.restore.proofs.RestoringLaws.{Indexed}
+use Rattle.scan.specs.Scans.{found}
+use Rattle.restore.specs.Restoring.{indexes_scan}
 use Rattle.restore.proofs.scan_indexes.Given as goal
 
 abbrev pub invariant-loop-i : goal.invariant-loop-i
-invariant-loop-i l = Indexed l.text l.at l.features l.found l.next l.i
-
-abbrev pub decreases-loop-i : goal.decreases-loop-i
-decreases-loop-i l = feature_count - l.i
+invariant-loop-i l = record {
+  all : length l.features ≡ feature_count;
+  so : found (take l.i l.features) l.rest ≡ indexes_scan l.i l.text;
+}

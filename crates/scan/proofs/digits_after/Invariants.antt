@@ -1,11 +1,10 @@
--- `scan::digits_after` meets its contract: the digits up to an offset came to a number.
-use Prim.Native.Nat.{◌-◌}
-use lib.ListN.{length}
+-- `scan::digits_after` meets its contract: the digits so far came to a number.
+use Rattle.std.proofs.Common.{length}
 use Rattle.scan.proofs.ScansLaws.{Running}
 use Rattle.scan.proofs.digits_after.Given as goal
 
-abbrev pub invariant-loop-next : goal.invariant-loop-next
-invariant-loop-next l = Running l.text l.at l.first l.value l.next
+abbrev pub invariant-loop-after : goal.invariant-loop-after
+invariant-loop-after l = Running l.text l.value l.after
 
-abbrev pub decreases-loop-next : goal.decreases-loop-next
-decreases-loop-next l = length l.text - l.next
+abbrev pub decreases-loop-after : goal.decreases-loop-after
+decreases-loop-after l = length l.after
