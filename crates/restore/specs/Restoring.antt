@@ -1,11 +1,10 @@
 -- Document 02, Ask 3: reading a store.
-use Rattle.std.specs.Prelude.{ℕ, zero, suc, ◌+◌, cond, List, [], ◌∷◌, ◌++◌, ltb, eqb}
+use Rattle.std.specs.Prelude.{ℕ, zero, suc, ◌+◌, cond, List, [], ◌∷◌, ◌++◌, ltb, eqb, Option}
 use Rattle.report.specs.Refusals as refusals
 use Rattle.report.specs.Ports.{device_count}
 use Rattle.report.specs.declared.FeatureIndex.{FeatureIndex}
 use Rattle.port.specs.declared.Port.{Port}
 use Rattle.port.specs.declared.Version.{Version}
-use Rattle.port.specs.declared.Serial.{Serial}
 use Rattle.port.specs.Records.{max_index, feature_count, fresh_port}
 use Rattle.text.specs.Words.{ascii, newline, decimal}
 use Rattle.text.specs.Texts.{tab, digits16, digits32}
@@ -28,7 +27,7 @@ indexes_scan (suc count) text =
 
 -- what follows the port in a line: WPID, serial, bitfield, version and indexes
 abbrev pub Pad : Type 0
-Pad = ℕ × (Serial × (ℕ × (Version × List FeatureIndex)))
+Pad = ℕ × (Option ℕ × (ℕ × (Option Version × List FeatureIndex)))
 
 unfoldable pub pad_scan : List ℕ → Scan Pad
 pad_scan text =

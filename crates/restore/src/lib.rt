@@ -10,7 +10,7 @@ ghost use Rattle.store.specs.Stores.{pad_port};
 ghost use Rattle.restore.specs.Restoring.{stop_after, indexes_scan, device_scan, devices_in, restored_by, read_store, restore_ports};
 ghost use Rattle.restore.specs.RestoreContracts.{restoring_of, restoring_by, capped_edition};
 
-use port::{Port, Serial, Version};
+use port::{Port, Version};
 use report::{FeatureIndex, Refusal};
 
 // Devices 1 to 6 have positions 0 to 5 among the ports; the receiver comes last.
@@ -20,14 +20,14 @@ const DEVICES: usize = report::DEVICES as usize;
 const EDITION: u16 = 1;
 
 // Why a text was not restored: refusal 15; or refusal 16, and the number of the first line that breaks the rules.
-#[derive(Clone, Copy)]
+#[derive(Clone, Copy, PartialEq, Eq)]
 pub struct NotRestored {
     pub refusal: Refusal,
     pub line: Option<u8>,
 }
 
 // The answer to a read, and the ports after it.
-#[derive(Clone, Copy)]
+#[derive(Clone, Copy, PartialEq, Eq)]
 pub struct Restoring {
     pub answer: Result<(), NotRestored>,
     pub ports: [Port; port::PORTS],
@@ -64,9 +64,9 @@ fn scan_indexes(text: &[u8]) -> Option<([FeatureIndex; port::FEATURES], &[u8])>
 #[tactic(auto, unfolding(store::specs::Stores::pad_port, port::specs::Records::fresh_port))]
 fn pad_port(
     wpid: u16,
-    serial: Serial,
+    serial: Option<u32>,
     reports: u32,
-    version: Version,
+    version: Option<Version>,
     features: [FeatureIndex; port::FEATURES],
 ) -> Port
     ensures { result ≡ pad_port wpid serial reports version features }

@@ -1,13 +1,10 @@
 -- Laws of what is read and what is written: each rule reads exactly the texts that are written.
-use Rattle.std.specs.Prelude.{ℕ, zero, suc, ◌+◌, ◌-◌, ◌*◌, ◌^◌, ◌/◌, ◌%◌, ◌≤◌, ◌<◌, ◌≡◌, refl, Bool, true, false, cond, List, [], ◌∷◌, ◌++◌, ◌⊎◌, leb, ltb, eqb, get_or}
+use Rattle.std.specs.Prelude.{ℕ, zero, suc, ◌+◌, ◌-◌, ◌*◌, ◌^◌, ◌/◌, ◌%◌, ◌≤◌, ◌<◌, ◌≡◌, refl, Bool, true, false, cond, List, [], ◌∷◌, ◌++◌, ◌⊎◌, leb, ltb, eqb, get_or, Option, Some, None}
 use Rattle.std.proofs.Common.{sym, ◌∙◌, ap, subst, append_assoc, inl, inr, not-suc-le-zero, le_of_suc-le-suc, arith, eqb-true, eq-eqb, ne_eqb, lt-ltb, le-leb, leb-true, ltb-true, ltb-false}
 use Rattle.std.proofs.lemmas.Bool.{eqb-false, lt-leb}
 use Rattle.report.specs.Ports.{in_range}
 use Rattle.report.proofs.ChoicesLaws.{in_range_law}
 use Rattle.port.specs.declared.Version.{Version}
-use Rattle.port.specs.declared.Version.TheVariants as versions
-use Rattle.port.specs.declared.Serial.{Serial}
-use Rattle.port.specs.declared.Serial.TheVariants as serials
 use Rattle.text.specs.Texts.{digits32, version_text, serial_text}
 use Rattle.text.specs.Words.{digit, hex, decimal, is_digit}
 use Rattle.text.proofs.WordsLaws.{decimal_last, decimal_more}
@@ -391,27 +388,30 @@ mapped_sound {A} {B} g rule s {b} {rest} e = go (rule s) refl e
     go missing q z = absurd (not_missing (sym z))
     go (found a t) q z = (a, (q ∙ ap (found a) (same_rest z), same_value z))
 
-pub serial_read : (stop : ℕ) → Reads SerialFits (λ (x : Serial). serial_text x ++ (stop ∷ [])) (serial_scan stop)
+pub serial_read : (stop : ℕ) → Reads SerialFits (λ (x : Option ℕ). serial_text x ++ (stop ∷ [])) (serial_scan stop)
 unfolding serial_scan known_serial serial_text hex_scan digits_scan digit_more capital_digit
-serial_read stop = unknown_read stop serials.Unknown (known_serial stop) tt refl sound (λ t. refl) refl complete
+serial_read stop = unknown_read stop None (known_serial stop) tt refl sound (λ t. refl) refl complete
   where
     number : Reads (λ (n : ℕ). n < 16 ^ digits32) (λ (n : ℕ). hex digits32 n ++ (stop ∷ [])) (hex_scan digits32 stop)
     number = hex_read digits32 stop
 
-    sound : (s : List ℕ) (x : Serial) (rest : List ℕ) → known_serial stop s ≡ found x rest → SerialFits x × (s ≡ (serial_text x ++ (stop ∷ [])) ++ rest)
+    sound : (s : List ℕ) (x : Option ℕ) (rest : List ℕ) → known_serial stop s ≡ found x rest → SerialFits x × (s ≡ (serial_text x ++ (stop ∷ [])) ++ rest)
     sound s x rest e =
-        let m = mapped_sound serials.Known (hex_scan digits32 stop) s e in
+        let m = mapped_sound Some (hex_scan digits32 stop) s e in
         let r = number.sound s m.0 rest m.1.0 in
-        subst (λ (y : Serial). SerialFits y × (s ≡ (serial_text y ++ (stop ∷ [])) ++ rest)) m.1.1 (r.0, r.1)
+        subst (λ (y : Option ℕ). SerialFits y × (s ≡ (serial_text y ++ (stop ∷ [])) ++ rest)) m.1.1 (r.0, r.1)
 
-    complete : (x : Serial) → SerialFits x → (rest : List ℕ) → (x ≡ serials.Unknown) ⊎ (known_serial stop ((serial_text x ++ (stop ∷ [])) ++ rest) ≡ found x rest)
-    complete serials.Unknown h rest = inl refl
-    complete (serials.Known n) h rest =
-        inr (ap (λ (y : Scan ℕ). then_scan y λ number rest. found (serials.Known number) rest) (number.complete n h rest))
+    complete : (x : Option ℕ) → SerialFits x → (rest : List ℕ) → (x ≡ None) ⊎ (known_serial stop ((serial_text x ++ (stop ∷ [])) ++ rest) ≡ found x rest)
+    complete None h rest = inl refl
+    complete (Some n) h rest =
+        inr (ap (λ (y : Scan ℕ). then_scan y λ number rest. found (Some number) rest) (number.complete n h rest))
 
-pub version_read : (stop : ℕ) → is_digit stop ≡ false → Reads VersionFits (λ (x : Version). version_text x ++ (stop ∷ [])) (version_scan stop)
+abbrev version_of : ℕ × ℕ → Option Version
+version_of p = Some (record { major = p.0; minor = p.1 })
+
+pub version_read : (stop : ℕ) → is_digit stop ≡ false → Reads VersionFits (λ (x : Option Version). version_text x ++ (stop ∷ [])) (version_scan stop)
 unfolding version_scan known_version version_text pair_scan decimal_scan number_scan
-version_read stop none = unknown_read stop versions.Unknown (known_version stop) tt refl sound (λ t. refl) refl complete
+version_read stop none = unknown_read stop None (known_version stop) tt refl sound (λ t. refl) refl complete
   where
     parts : Reads (λ (p : ℕ × ℕ). (p.0 ≤ byte_last) × (p.1 ≤ byte_last)) (λ (p : ℕ × ℕ). (decimal p.0 ++ (point ∷ [])) ++ (decimal p.1 ++ (stop ∷ []))) (pair_scan (decimal_scan byte_last point) (decimal_scan byte_last stop))
     parts = pair_read (decimal_read byte_last point refl) (decimal_read byte_last stop none)
@@ -420,13 +420,13 @@ version_read stop none = unknown_read stop versions.Unknown (known_version stop)
     same_text a b =
         append_assoc (decimal a) (point ∷ []) (decimal b ++ (stop ∷ [])) ∙ sym (append_assoc (decimal a) (point ∷ decimal b) (stop ∷ []))
 
-    sound : (s : List ℕ) (x : Version) (rest : List ℕ) → known_version stop s ≡ found x rest → VersionFits x × (s ≡ (version_text x ++ (stop ∷ [])) ++ rest)
+    sound : (s : List ℕ) (x : Option Version) (rest : List ℕ) → known_version stop s ≡ found x rest → VersionFits x × (s ≡ (version_text x ++ (stop ∷ [])) ++ rest)
     sound s x rest e =
-        let m = mapped_sound (λ (p : ℕ × ℕ). versions.Known p.0 p.1) (pair_scan (decimal_scan byte_last point) (decimal_scan byte_last stop)) s e in
+        let m = mapped_sound version_of (pair_scan (decimal_scan byte_last point) (decimal_scan byte_last stop)) s e in
         let r = parts.sound s m.0 rest m.1.0 in
-        subst (λ (y : Version). VersionFits y × (s ≡ (version_text y ++ (stop ∷ [])) ++ rest)) m.1.1 (r.0, r.1 ∙ ap (λ (l : List ℕ). l ++ rest) (same_text m.0.0 m.0.1))
+        subst (λ (y : Option Version). VersionFits y × (s ≡ (version_text y ++ (stop ∷ [])) ++ rest)) m.1.1 (r.0, r.1 ∙ ap (λ (l : List ℕ). l ++ rest) (same_text m.0.0 m.0.1))
 
-    complete : (x : Version) → VersionFits x → (rest : List ℕ) → (x ≡ versions.Unknown) ⊎ (known_version stop ((version_text x ++ (stop ∷ [])) ++ rest) ≡ found x rest)
-    complete versions.Unknown h rest = inl refl
-    complete (versions.Known a b) h rest =
-        inr (ap (λ (l : List ℕ). known_version stop (l ++ rest)) (sym (same_text a b)) ∙ ap (λ (y : Scan (ℕ × ℕ)). then_scan y λ p rest. found (versions.Known p.0 p.1) rest) (parts.complete (a, b) h rest))
+    complete : (x : Option Version) → VersionFits x → (rest : List ℕ) → (x ≡ None) ⊎ (known_version stop ((version_text x ++ (stop ∷ [])) ++ rest) ≡ found x rest)
+    complete None h rest = inl refl
+    complete (Some v) h rest =
+        inr (ap (λ (l : List ℕ). known_version stop (l ++ rest)) (sym (same_text v.major v.minor)) ∙ ap (λ (y : Scan (ℕ × ℕ)). then_scan y λ p rest. found (version_of p) rest) (parts.complete (v.major, v.minor) h rest))

@@ -1,10 +1,7 @@
 -- Document 02, Ask 3: numbers and fields read from the front of a text.
-use Rattle.std.specs.Prelude.{ℕ, zero, suc, ◌+◌, ◌-◌, ◌*◌, cond, List, [], ◌∷◌, leb, ltb, eqb}
+use Rattle.std.specs.Prelude.{ℕ, zero, suc, ◌+◌, ◌-◌, ◌*◌, cond, List, [], ◌∷◌, leb, ltb, eqb, Option, Some, None}
 use Rattle.report.specs.Ports.{in_range}
 use Rattle.port.specs.declared.Version.{Version}
-use Rattle.port.specs.declared.Version.TheVariants as versions
-use Rattle.port.specs.declared.Serial.{Serial}
-use Rattle.port.specs.declared.Serial.TheVariants as serials
 use Rattle.text.specs.Words.{is_digit}
 use Rattle.text.specs.Texts.{digits32}
 
@@ -94,21 +91,21 @@ unknown_or stop unknown known [] = missing
 unknown_or stop unknown known (c ∷ text) = cond (eqb c dash) (stopped stop unknown text) (known (c ∷ text))
 
 -- eight digits
-unfoldable pub known_serial : (stop : ℕ) → List ℕ → Scan Serial
-known_serial stop text = then_scan (hex_scan digits32 stop text) λ number rest. found (serials.Known number) rest
+unfoldable pub known_serial : (stop : ℕ) → List ℕ → Scan (Option ℕ)
+known_serial stop text = then_scan (hex_scan digits32 stop text) λ number rest. found (Some number) rest
 
-unfoldable pub serial_scan : (stop : ℕ) → List ℕ → Scan Serial
-serial_scan stop text = unknown_or stop serials.Unknown (known_serial stop) text
+unfoldable pub serial_scan : (stop : ℕ) → List ℕ → Scan (Option ℕ)
+serial_scan stop text = unknown_or stop None (known_serial stop) text
 
 -- the largest byte
 abbrev pub byte_last : ℕ
 byte_last = 255
 
 -- major.minor, each at most 255
-unfoldable pub known_version : (stop : ℕ) → List ℕ → Scan Version
+unfoldable pub known_version : (stop : ℕ) → List ℕ → Scan (Option Version)
 known_version stop text =
     then_scan (pair_scan (decimal_scan byte_last point) (decimal_scan byte_last stop) text) λ parts rest.
-    found (versions.Known parts.0 parts.1) rest
+    found (Some (record { major = parts.0; minor = parts.1 })) rest
 
-unfoldable pub version_scan : (stop : ℕ) → List ℕ → Scan Version
-version_scan stop text = unknown_or stop versions.Unknown (known_version stop) text
+unfoldable pub version_scan : (stop : ℕ) → List ℕ → Scan (Option Version)
+version_scan stop text = unknown_or stop None (known_version stop) text

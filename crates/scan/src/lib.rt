@@ -6,7 +6,7 @@ ghost use Rattle.text.specs.Texts.{digits16, digits32};
 ghost use Rattle.scan.specs.Scans.{word_scan, stopped, run_after, decimal_scan, digit_more, digits_scan, hex_scan, serial_scan, version_scan};
 ghost use Rattle.scan.specs.ScanContracts.{scan_of, after_of, too_large, capped, capped_scan, capped_run, digit_value};
 
-use port::{Serial, Version};
+use port::Version;
 
 // Stands for every number that is larger than any field may hold: `capped_scan`, which `scan_number` promises, has it so.
 const TOO_LARGE: u16 = 1000;
@@ -141,29 +141,27 @@ pub fn scan_hex32(text: &[u8], stop: u8) -> Option<(u32, &[u8])>
 
 // A serial, or "-".
 #[tactic(auto, unfolding(crate::specs::Scans::serial_scan, crate::specs::Scans::known_serial, crate::specs::Scans::hex_scan, crate::specs::Scans::digits_scan, crate::specs::Scans::digit_more))]
-pub fn scan_serial(text: &[u8], stop: u8) -> Option<(Serial, &[u8])>
+pub fn scan_serial(text: &[u8], stop: u8) -> Option<(Option<u32>, &[u8])>
     ensures found { scan_of result ≡ serial_scan stop text.now }
 {
     match text {
-        [b'-', text @ ..] => stopped(Serial::Unknown, text, stop),
+        [b'-', text @ ..] => stopped(None, text, stop),
         _ => {
             let (number, text) = scan_hex32(text, stop)?;
-            Some((Serial::Known(number), text))
+            Some((Some(number), text))
         }
     }
 }
 
 // A version, or "-".
 #[tactic(auto, unfolding(crate::specs::Scans::version_scan, crate::specs::Scans::known_version, crate::specs::Scans::pair_scan, crate::specs::Scans::decimal_scan, crate::specs::Scans::number_scan))]
-pub fn scan_version(text: &[u8], stop: u8) -> Option<(Version, &[u8])>
+pub fn scan_version(text: &[u8], stop: u8) -> Option<(Option<Version>, &[u8])>
     ensures found { scan_of result ≡ version_scan stop text.now }
 {
-    match text {
-        [b'-', text @ ..] => stopped(Version::Unknown, text, stop),
-        _ => {
-            let (major, text) = scan_decimal(text, u8::MAX, b'.')?;
-            let (minor, text) = scan_decimal(text, u8::MAX, stop)?;
-            Some((Version::Known(major, minor), text))
-        }
+    if let [b'-', text @ ..] = text {
+        return stopped(None, text, stop);
     }
+    let (major, text) = scan_decimal(text, u8::MAX, b'.')?;
+    let (minor, text) = scan_decimal(text, u8::MAX, stop)?;
+    Some((Some(Version { major, minor }), text))
 }
