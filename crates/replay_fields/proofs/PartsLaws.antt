@@ -3,7 +3,8 @@ use Rattle.std.specs.Prelude.{ℕ, zero, suc, ◌≤◌, ◌≡◌, refl, true, 
 use Rattle.std.proofs.Common.{sym, ◌∙◌, ap, subst, not-suc-le-zero, arith, lit≤, ltb-true}
 use Rattle.std.specs.Int.Signed.{lt_z}
 use Rattle.text.specs.Words.{ascii, decimal}
-use Rattle.text.specs.Putting.{Puts}
+use Rattle.text.specs.declared.Out.{Out}
+use Rattle.text.specs.Putting.{Puts, Outputs}
 use Rattle.text.proofs.PuttingLaws.{nothing_put, at_most, same_text, then_put}
 use Rattle.text.proofs.PutDigitsLaws.{in_digits}
 use Rattle.replay_fields.specs.AnswerFields.{comma, comma_most, farthest, signed_text, signed_most, answer_most}
@@ -39,3 +40,18 @@ module _ {k at : ℕ} {b : List ℕ} {n : ℕ} {b₁ : List ℕ} (z : ℤ) (size
 -- a line that is no longer than the longest answer
 pub an_answer : {m : ℕ} {text : List ℕ} {at : ℕ} {b : List ℕ} {next : ℕ} {b₁ : List ℕ} → T (leb m answer_most) → Puts m text at b next b₁ → Puts answer_most text at b next b₁
 an_answer t p = at_most answer_most (lit≤ t) p
+
+-- the same of a lent buffer with its offset; the number comes where the sign went, if any
+module _ {k : ℕ} {o o₂ : Out} (z : ℤ) (size : ℕ) (far : size ≡ nat_abs z) (small : size ≤ farthest) where
+  pub negative_out : {o₁ o₃ : Out} → lt_z z (pos 0) ≡ true → Outputs 1 (ascii "-") o o₁ → o₂ ≡ o₁ → Outputs k (decimal size) o₂ o₃ → Outputs signed_most (signed_text z) o o₃
+  negative_out {o₁} {o₃} h sign is digits =
+      let there = subst (λ (out : Out). Outputs k (decimal size) out o₃) is digits in
+      record { puts = a_negative z size far small h sign.puts there.puts; same = sign.same ∙ there.same }
+
+  pub positive_out : {o₃ : Out} → lt_z z (pos 0) ≡ false → o₂ ≡ o → Outputs k (decimal size) o₂ o₃ → Outputs signed_most (signed_text z) o o₃
+  positive_out {o₃} h is digits =
+      let there = subst (λ (out : Out). Outputs k (decimal size) out o₃) is digits in
+      record { puts = a_positive z size far small h there.puts; same = there.same }
+
+pub answer_out : {m : ℕ} {text : List ℕ} {o o₁ : Out} → T (leb m answer_most) → Outputs m text o o₁ → Outputs answer_most text o o₁
+answer_out t p = record { puts = an_answer t p.puts; same = p.same }

@@ -1,14 +1,13 @@
-// Fields of a line of text: a word, and the value after it, put into a lent buffer.
+// Values of the fields of a line of text, and the parts beside them, put into a lent buffer.
 #![tactic(auto)]
 
-ghost use Rattle.std.specs.Prelude.{◌++◌, ◌+◌, ◌≤◌, ◌≡◌, nat_abs, length};
-ghost use Rattle.text.specs.Words.{hex, decimal};
-ghost use Rattle.text.specs.Putting.{Puts};
-ghost use Rattle.text.specs.Texts.{digits8, number_most, byte_most, link_text, link_most};
-ghost use Rattle.replay_fields.specs.AnswerFields.{byte_text, flag, flag_most, farthest, signed_text, signed_most, comma, comma_most, refused_text, refused_most};
+ghost use Rattle.text.specs.Putting.{Outputs};
+ghost use Rattle.text.specs.Texts.{digits8};
+ghost use Rattle.replay_fields.specs.AnswerFields.{byte_text, flag, flag_most, signed_text, signed_most, comma, comma_most, refused_text, refused_most};
 ghost use Rattle.report.specs.ReportContracts.{number_of};
 
 use report::Refusal;
+use text::Out;
 
 // The digits of a byte in hexadecimal.
 const CODE: usize = text::DIGITS_8 as usize;
@@ -24,92 +23,43 @@ pub const ANSWER: usize = 5
     + (6 + CODE)
     + 1;
 
-// A byte in decimal.
-pub fn put_number(buffer: &mut [u8], at: usize, word: &[u8], n: u8) -> usize
-    ensures put { Puts (length word.now + byte_most) (word.now ++ decimal n) at buffer.old result buffer.new }
-{
-    let at = text::put_word(buffer, at, word);
-    text::put_small(buffer, at, n)
-}
-
-// A decimal number of any size.
-pub fn put_count(buffer: &mut [u8], at: usize, word: &[u8], n: usize) -> usize
-    ensures put { Puts (length word.now + number_most) (word.now ++ decimal n) at buffer.old result buffer.new }
-{
-    let at = text::put_word(buffer, at, word);
-    text::put_decimal(buffer, at, n)
-}
-
-// Hexadecimal at a fixed width.
-pub fn put_wide(buffer: &mut [u8], at: usize, word: &[u8], width: u8, n: usize) -> usize
-    ensures put { Puts (length word.now + width) (word.now ++ hex width n) at buffer.old result buffer.new }
-{
-    let at = text::put_word(buffer, at, word);
-    text::put_hex(buffer, at, width, n)
-}
-
 // A byte: two hexadecimal digits.
-pub fn put_code(buffer: &mut [u8], at: usize, word: &[u8], n: u8) -> usize
-    ensures put { Puts (length word.now + digits8) (word.now ++ byte_text n) at buffer.old result buffer.new }
+pub fn put_code(out: &mut Out, n: u8)
+    ensures put { Outputs digits8 (byte_text n) out.old out.new }
 {
-    put_wide(buffer, at, word, text::DIGITS_8, n as usize)
+    out.hex(text::DIGITS_8, n as usize)
 }
 
-pub fn put_flag(buffer: &mut [u8], at: usize, word: &[u8], on: bool) -> usize
-    ensures put { Puts (length word.now + flag_most) (word.now ++ flag on) at buffer.old result buffer.new }
+pub fn put_flag(out: &mut Out, on: bool)
+    ensures put { Outputs flag_most (flag on) out.old out.new }
 {
-    let at = text::put_word(buffer, at, word);
-    if on {
-        return text::put_byte(buffer, at, b'1');
-    }
-    text::put_byte(buffer, at, b'0')
-}
-
-pub fn put_link(buffer: &mut [u8], at: usize, word: &[u8], up: bool) -> usize
-    ensures put { Puts (length word.now + link_most) (word.now ++ link_text up) at buffer.old result buffer.new }
-{
-    let at = text::put_word(buffer, at, word);
-    text::put_link(buffer, at, up)
-}
-
-// How far a number lies from 0. Below 0 it is the distance from -1, which the same width holds, and one more.
-fn magnitude(n: i16) -> usize
-    ensures far { result ≡ nat_abs n }
-    ensures small { result ≤ farthest }
-{
-    if n < 0 {
-        return (-1 - n) as usize + 1;
-    }
-    n as usize
+    if on { out.byte(b'1') } else { out.byte(b'0') }
 }
 
 // A signed decimal number.
-pub fn put_signed(buffer: &mut [u8], at: usize, word: &[u8], n: i16) -> usize
-    ensures put { Puts (length word.now + signed_most) (word.now ++ signed_text n) at buffer.old result buffer.new }
+pub fn put_signed(out: &mut Out, n: i16)
+    ensures put { Outputs signed_most (signed_text n) out.old out.new }
 {
-    let at = text::put_word(buffer, at, word);
-    let size = magnitude(n);
     if n < 0 {
-        let at = text::put_byte(buffer, at, b'-');
-        return text::put_decimal(buffer, at, size);
+        out.byte(b'-');
     }
-    text::put_decimal(buffer, at, size)
+    out.decimal(n.unsigned_abs() as usize)
 }
 
 // A comma before every element except the first.
-pub fn put_comma(buffer: &mut [u8], at: usize, i: usize) -> usize
-    ensures put { Puts comma_most (comma i) at buffer.old result buffer.new }
+pub fn put_comma(out: &mut Out, i: usize)
+    ensures put { Outputs comma_most (comma i) out.old out.new }
 {
-    if i == 0 {
-        return at;
+    if i > 0 {
+        out.byte(b',')
     }
-    text::put_byte(buffer, at, b',')
 }
 
 // The line of a refusal, except a writer's.
-pub fn put_refused(buffer: &mut [u8], at: usize, refusal: Refusal) -> usize
-    ensures put { Puts refused_most (refused_text (number_of refusal)) at buffer.old result buffer.new }
+pub fn put_refused(out: &mut Out, refusal: Refusal)
+    ensures put { Outputs refused_most (refused_text (number_of refusal)) out.old out.new }
 {
-    let at = put_number(buffer, at, b"refused ", refusal.number());
-    text::put_byte(buffer, at, b'\n')
+    out.word(b"refused ");
+    out.small(u8::from(refusal));
+    out.byte(b'\n')
 }

@@ -1,16 +1,13 @@
 -- `replay_fields::put_signed` meets its contract: the sign below 0, then the distance from 0.
 use mathlib.Core.Path.{◌∙◌}
 use Rattle.replay_fields.proofs.Signs.{far, sign}
-use Rattle.text.proofs.PuttingLaws.{then_put}
-use Rattle.replay_fields.proofs.PartsLaws.{a_negative, a_positive}
+use Rattle.replay_fields.proofs.PartsLaws.{negative_out, positive_out}
+use Rattle.replay_fields.proofs.put_signed.Goals.{then-n-lt0, else-n-lt0}
 use Rattle.replay_fields.proofs.put_signed.Goals as goal
 
-pub returns-then-n-lt0 : goal.returns-then-n-lt0
-returns-then-n-lt0 c = record {
-  put = then_put c.put_word-at.ensures.put (a_negative _ _ (c.magnitude-size.ensures.far ∙ far c.args.n c.ranges.n) c.magnitude-size.ensures.small (sign c.args.n c.ranges.n c.if-n-lt0.true) c.put_byte-at.ensures.put c.put_decimal.ensures.put);
-}
-
 pub returns : goal.returns
-returns c = record {
-  put = then_put c.put_word-at.ensures.put (a_positive _ _ (c.magnitude-size.ensures.far ∙ far c.args.n c.ranges.n) c.magnitude-size.ensures.small (sign c.args.n c.ranges.n c.if-n-lt0.false) c.put_decimal-2.ensures.put);
-}
+returns c =
+    let far = c.unsigned_abs.ensures.value ∙ far c.args.n c.ranges.n in
+    record {
+      put = elim c.if-n-lt0.branch [ then-n-lt0 w ↦ negative_out _ _ far c.unsigned_abs.ensures.bound (sign c.args.n c.ranges.n w.if-n-lt0.true) w.byte.ensures.put w.out-is c.decimal.ensures.put | else-n-lt0 w ↦ positive_out _ _ far c.unsigned_abs.ensures.bound (sign c.args.n c.ranges.n w.if-n-lt0.false) w.out-is c.decimal.ensures.put ];
+    }
