@@ -1,12 +1,10 @@
 -- Document 02, Ask 3: the store. Which texts are stores of edition 1, and of which ports.
-use Rattle.std.specs.Prelude.{ℕ, ◌+◌, ◌*◌, ◌^◌, ◌≤◌, ◌<◌, ◌≡◌, true, false, cond, List, [], ◌∷◌, ◌++◌, map, length, replicate}
+use Rattle.std.specs.Prelude.{ℕ, ◌+◌, ◌*◌, ◌^◌, ◌≤◌, ◌<◌, ◌≡◌, true, false, cond, List, [], ◌∷◌, ◌++◌, Option, None, map, length, replicate}
 use Rattle.report.specs.Ports.{device_count}
 use Rattle.report.specs.declared.FeatureIndex.{FeatureIndex}
 use Rattle.frame.specs.Writing.{WriteOutcome, frame_at}
 use Rattle.port.specs.declared.Port.{Port}
 use Rattle.port.specs.declared.Version.{Version}
-use Rattle.port.specs.declared.Serial.{Serial}
-use Rattle.port.specs.declared.Battery.TheVariants as batteries
 use Rattle.port.specs.Records.{place_count, feature_count, max_index, empty_place, fresh_port}
 use Rattle.text.specs.Words.{ascii, hex, decimal}
 use Rattle.text.specs.Texts.{tab, tabbed, paired_lines, digits16, digits32, byte_most, version_text, version_most, serial_text, serial_most}
@@ -56,7 +54,7 @@ unfoldable pub store_rule : List Port → ℕ → List ℕ → WriteOutcome
 store_rule ports offset lent = frame_at (store_text ports) offset lent
 
 -- a paired device of which these are known: all else is as fresh
-unfoldable pub pad_port : (wpid : ℕ) → Serial → (reports : ℕ) → Version → List FeatureIndex → Port
+unfoldable pub pad_port : (wpid : ℕ) → Option ℕ → (reports : ℕ) → Option Version → List FeatureIndex → Port
 pad_port wpid serial reports version features =
     record {
       paired = true;
@@ -65,7 +63,7 @@ pad_port wpid serial reports version features =
       up = false;
       version = version;
       features = features;
-      battery = batteries.Unknown;
+      battery = None;
       serial = serial;
       places = replicate place_count empty_place;
     }

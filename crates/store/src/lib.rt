@@ -1,20 +1,14 @@
 // The store: the paired devices as text that a console keeps while it is off.
 #![tactic(auto)]
 
-ghost use Rattle.std.specs.Prelude.{◌≡◌, ◌∷◌, ◌*◌};
-ghost use Rattle.report.specs.Ports.{device_count};
-ghost use Rattle.port.specs.Records.{feature_count};
-ghost use Rattle.text.specs.Putting.{Puts};
-ghost use Rattle.text.specs.Texts.{each, paired_text, paired_lines};
+ghost use Rattle.std.specs.Prelude.{◌≡◌};
+ghost use Rattle.text.specs.Putting.{Outputs};
 ghost use Rattle.frame.specs.FrameContracts.{written_outcome};
 ghost use Rattle.store.specs.Stores.{index_text, index_most, pad_line, pad_most, store_rule};
 
-use frame::Written;
 use port::Port;
-use report::FeatureIndex;
-
-// Devices 1 to 6 have positions 0 to 5 among the ports; the receiver comes last.
-const DEVICES: usize = report::DEVICES as usize;
+use report::{FeatureIndex, Refusal};
+use text::Out;
 
 // The first line, and the longest line of a device: the fields, and the byte after each.
 const HEADER: usize = 4 + 1 + 1 + 1;
@@ -30,79 +24,47 @@ const LINE: usize = text::BYTE_MOST
     + FIELDS;
 
 // Room for every store.
-const ROOM: usize = HEADER + LINE * DEVICES;
+const ROOM: usize = HEADER + LINE * report::DEVICES as usize;
 
 // A tab, and the index of a feature.
-fn put_index(buffer: &mut [u8], at: usize, index: FeatureIndex) -> usize
-    ensures { Puts index_most (index_text 0 index) at buffer.old result buffer.new }
+fn put_index(out: &mut Out, position: usize, index: &FeatureIndex)
+    ensures { Outputs index_most (index_text position index.now) out.old out.new }
 {
-    let next = text::put_byte(buffer, at, text::TAB);
-    text::put_small(buffer, next, index.0)
-}
-
-// The indexes of the known features.
-fn put_indexes(buffer: &mut [u8], at: usize, features: [FeatureIndex; port::FEATURES]) -> usize
-    ensures { Puts (index_most * feature_count) (each index_text features) at buffer.old result buffer.new }
-{
-    let mut next = at;
-    let mut i = 0;
-    while i < port::FEATURES {
-        next = put_index(buffer, next, features[i]);
-        i += 1;
-    }
-    next
+    out.byte(text::TAB);
+    out.small(index.0)
 }
 
 // The line of one device.
-fn put_pad(buffer: &mut [u8], at: usize, port: Port, number: u8) -> usize
-    ensures { Puts pad_most (pad_line number port) at buffer.old result buffer.new }
+fn put_pad(out: &mut Out, number: u8, port: &Port)
+    ensures { Outputs pad_most (pad_line number port.now) out.old out.new }
 {
-    let serial = port.serial;
-    let version = port.version;
-    let features = port.features;
-    let at = text::put_small(buffer, at, number);
-    let at = text::put_byte(buffer, at, text::TAB);
-    let at = text::put_hex(buffer, at, text::DIGITS_16, port.wpid as usize);
-    let at = text::put_byte(buffer, at, text::TAB);
-    let at = text::put_serial(buffer, at, serial);
-    let at = text::put_byte(buffer, at, text::TAB);
-    let at = text::put_hex(buffer, at, text::DIGITS_32, port.reports as usize);
-    let at = text::put_byte(buffer, at, text::TAB);
-    let at = text::put_version(buffer, at, version);
-    let at = put_indexes(buffer, at, features);
-    text::put_byte(buffer, at, text::NEWLINE)
-}
-
-// The line of a paired device, and nothing of an unpaired one.
-fn put_device(buffer: &mut [u8], at: usize, port: Port, number: u8) -> usize
-    ensures { Puts pad_most (paired_text pad_line number port) at buffer.old result buffer.new }
-{
-    if port.paired {
-        return put_pad(buffer, at, port, number);
-    }
-    at
-}
-
-// The lines of devices 1 to 6.
-fn put_pads(buffer: &mut [u8], at: usize, ports: [Port; port::PORTS]) -> usize
-    ensures { Puts (pad_most * device_count) (paired_lines pad_line ports) at buffer.old result buffer.new }
-{
-    let mut next = at;
-    let mut i = 0;
-    while i < DEVICES {
-        let port = ports[i];
-        next = put_device(buffer, next, port, (i + 1) as u8);
-        i += 1;
-    }
-    next
+    out.small(number);
+    out.byte(text::TAB);
+    out.hex(text::DIGITS_16, port.wpid as usize);
+    out.byte(text::TAB);
+    out.serial(port.serial);
+    out.byte(text::TAB);
+    out.hex(text::DIGITS_32, port.reports as usize);
+    out.byte(text::TAB);
+    out.version(port.version);
+    out.each(&port.features, put_index);
+    out.byte(text::NEWLINE)
 }
 
 // Writes the store of the paired devices among the ports: refusal 10.
-pub fn write_store(ports: [Port; port::PORTS], buffer: &mut [u8], offset: usize) -> Written
+pub fn write_store(
+    ports: [Port; port::PORTS],
+    buffer: &mut [u8],
+    offset: usize,
+) -> Result<usize, Refusal>
     ensures written { written_outcome result buffer.new ≡ store_rule ports offset buffer.old }
 {
-    let mut bytes = [0; ROOM];
-    let size = text::put_word(&mut bytes, 0, b"pads\t1\n");
-    let size = put_pads(&mut bytes, size, ports);
-    text::write_at(&bytes[..size], buffer, offset)
+    text::write_paired(
+        &mut [0; ROOM],
+        b"pads\t1\n",
+        &ports,
+        put_pad,
+        buffer,
+        offset,
+    )
 }

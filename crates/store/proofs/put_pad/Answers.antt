@@ -1,9 +1,11 @@
 -- `store::put_pad` meets its contract: the fields in order, each with the byte after it, and then the indexes.
 use mathlib.Core.Path.{sym}
-use Rattle.text.proofs.PuttingLaws.{same_text, then_put}
+use native.Mathlib.Omega.{arith}
+use Rattle.text.proofs.PuttingLaws.{out_at_most, same_out, then_out}
+use Rattle.store.specs.Stores.{index_text, index_most, pad_most}
 use Rattle.store.proofs.StoresLaws.{pad_line_law}
 use Rattle.store.proofs.put_pad.Goals as goal
 
 pub returns : goal.returns
 returns c =
-    same_text (sym (pad_line_law _ _)) (then_put c.put_small-at.ensures.put (then_put c.put_byte-at.ensures.put (then_put c.put_hex-at.ensures.put (then_put c.put_byte-at-2.ensures.put (then_put c.put_serial-at.ensures.put (then_put c.put_byte-at-3.ensures.put (then_put c.put_hex-at-2.ensures.put (then_put c.put_byte-at-4.ensures.put (then_put c.put_version-at.ensures.put (then_put c.put_indexes-at.ensures c.put_byte.ensures.put))))))))))
+    out_at_most pad_most (omega arith) (same_out (sym (pad_line_law c.args.number c.args.port.now)) (then_out c.small.ensures.put (then_out c.byte.ensures.put (then_out c.hex.ensures.put (then_out c.byte-2.ensures.put (then_out c.serial.ensures.put (then_out c.byte-3.ensures.put (then_out c.hex-2.ensures.put (then_out c.byte-4.ensures.put (then_out c.version.ensures.put (then_out (c.each.ensures.each index_text index_most (λ o o₁ position x put. put)) c.byte-5.ensures.put)))))))))))
