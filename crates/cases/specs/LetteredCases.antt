@@ -1,9 +1,8 @@
 -- Document 01, "Lettered cases": all except n and p, which are run. Each is the whole outcome, by the definitions that the contracts cite.
-use Rattle.std.specs.Prelude.{ℕ, ◌≡◌, false, List, [], ◌∷◌, replicate, set, pos, negsuc}
+use Rattle.std.specs.Prelude.{ℕ, ◌≡◌, false, List, [], ◌∷◌, replicate, set, pos, negsuc, Some}
 use Rattle.frame.specs.Writing as writing
 use Rattle.mouse.specs.Movement as mouse
 use Rattle.port.specs.declared.Port.{Port}
-use Rattle.port.specs.declared.Version.TheVariants as versions
 use Rattle.port.specs.Records.{fresh_port, with_version, with_places, with_pairing}
 use Rattle.port.specs.Answers as answers
 use Rattle.request.specs.Requesting.{waiting_request}
@@ -61,9 +60,9 @@ pub record LetteredCases : Type 0 where
   pub a : take_rule fresh_station [] ≡ taken (answers.refused 1) fresh_station
   pub b : take_rule fresh_station (0x10 ∷ 0x01 ∷ 0x00 ∷ 0x13 ∷ 0x00 ∷ 0x00 ∷ []) ≡ taken (answers.refused 3) fresh_station
   pub c_request : ping ≡ record { answer = writing.wrote 7; station = pinged; lent = 0xEE ∷ 0x10 ∷ 0x02 ∷ 0x00 ∷ 0x11 ∷ 0x00 ∷ 0x00 ∷ 0x5A ∷ 0xEE ∷ [] }
-  pub c_reply : take_rule pinged (0x10 ∷ 0x02 ∷ 0x00 ∷ 0x11 ∷ 0x02 ∷ 0x00 ∷ 0x5A ∷ []) ≡ taken (answers.reply 0 (about_short 2 0x00 0x11)) (device2 (with_version fresh_port (versions.Known 2 0)))
+  pub c_reply : take_rule pinged (0x10 ∷ 0x02 ∷ 0x00 ∷ 0x11 ∷ 0x02 ∷ 0x00 ∷ 0x5A ∷ []) ≡ taken (answers.reply 0 (about_short 2 0x00 0x11)) (device2 (with_version fresh_port (Some (record { major = 2; minor = 0 }))))
   pub d : take_rule pinged (0x10 ∷ 0x03 ∷ 0x00 ∷ 0x11 ∷ 0x02 ∷ 0x00 ∷ 0x5A ∷ []) ≡ taken (answers.stray (about_short 3 0x00 0x11)) pinged
-  pub e : take_rule pinged (0x10 ∷ 0x02 ∷ 0x8F ∷ 0x00 ∷ 0x11 ∷ 0x01 ∷ 0x00 ∷ []) ≡ taken (answers.failed (about_short 2 0x00 0x11) 1 0x8F) (device2 (with_version fresh_port (versions.Known 1 0)))
+  pub e : take_rule pinged (0x10 ∷ 0x02 ∷ 0x8F ∷ 0x00 ∷ 0x11 ∷ 0x01 ∷ 0x00 ∷ []) ≡ taken (answers.failed (about_short 2 0x00 0x11) 1 0x8F) (device2 (with_version fresh_port (Some (record { major = 1; minor = 0 }))))
   pub f : take_rule fresh_station pairing ≡ taken (answers.notice (answers.paired 2 false 0x2010 0x0E 0)) paired
   pub g : take_rule paired power ≡ taken (answers.refused 8) paired
   pub g_unpaired : take_rule fresh_station power ≡ taken (answers.refused 7) fresh_station

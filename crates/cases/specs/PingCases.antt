@@ -1,8 +1,7 @@
 -- Document 02, Ask 2: a slow console pings device 2 with 5A, which expires, and again with 5B; the answer to 5A comes late. Then what is compared and what is not. Each is the whole outcome, by the definitions that the contracts cite.
-use Rattle.std.specs.Prelude.{ℕ, ◌≡◌, List, [], ◌∷◌, replicate, set}
+use Rattle.std.specs.Prelude.{ℕ, ◌≡◌, List, [], ◌∷◌, replicate, set, Some}
 use Rattle.frame.specs.Writing as writing
 use Rattle.port.specs.declared.Port.{Port}
-use Rattle.port.specs.declared.Version.TheVariants as versions
 use Rattle.port.specs.Records.{fresh_port, with_version, with_places}
 use Rattle.port.specs.Answers as answers
 use Rattle.request.specs.Requesting.{waiting_request}
@@ -26,7 +25,7 @@ ping_reply first second third = 0x10 ∷ 0x02 ∷ 0x00 ∷ 0x11 ∷ first ∷ se
 
 -- the version that a port has
 unfoldable pub of_version : (major minor : ℕ) → Port → Port
-of_version major minor port = with_version port (versions.Known major minor)
+of_version major minor port = with_version port (Some (record { major = major; minor = minor }))
 
 -- a fresh station with this port for device 3
 unfoldable pub device3 : Port → Station

@@ -1,10 +1,7 @@
 -- Document 02, Ask 1, on the reports of a keyboard in source document 004: the receiver's reply gives device 1's serial, and the reply for its twin drops what waits. Each is the whole outcome, by the definitions that the contracts cite.
-use Rattle.std.specs.Prelude.{ℕ, ◌≡◌, true, false, List, [], ◌∷◌, replicate}
+use Rattle.std.specs.Prelude.{ℕ, ◌≡◌, true, false, List, [], ◌∷◌, replicate, Some}
 use Rattle.frame.specs.Writing as writing
 use Rattle.port.specs.declared.Port.{Port}
-use Rattle.port.specs.declared.Version.TheVariants as versions
-use Rattle.port.specs.declared.Battery.TheVariants as batteries
-use Rattle.port.specs.declared.Serial.TheVariants as serials
 use Rattle.port.specs.Records.{fresh_port, with_pairing, with_version, with_battery, with_serial, with_features, with_link}
 use Rattle.port.specs.Answers as answers
 use Rattle.station.specs.declared.Station.{Station}
@@ -31,12 +28,12 @@ about_serial = record { port = 255; byte2 = 0x83; byte3 = 0xB5; start = 4; size 
 
 -- a port with a known serial
 unfoldable pub known : Port → ℕ → Port
-known port number = with_serial port (serials.Known number)
+known port number = with_serial port (Some number)
 
 -- a keyboard of which everything is known, and a request waits
 unfoldable pub used_keyboard : Port
 used_keyboard =
-    with_link (with_battery (with_version (with_features (waiting_port 0x05 0x21 10 (0x00 ∷ 0x00 ∷ 0x00 ∷ [])) (replicate 5 (record { 0 = 5 }))) (versions.Known 2 0)) (batteries.Known 90 80 0)) true
+    with_link (with_battery (with_version (with_features (waiting_port 0x05 0x21 10 (0x00 ∷ 0x00 ∷ 0x00 ∷ [])) (replicate 5 (record { 0 = 5 }))) (Some (record { major = 2; minor = 0 }))) (Some (record { level = 90; next = 80; status = 0 }))) true
 
 pub record SerialCases : Type 0 where
   pub pairing : take_rule fresh_station (0x20 ∷ 0x01 ∷ 0x41 ∷ 0x00 ∷ 0x10 ∷ 0x20 ∷ 0x1A ∷ 0x40 ∷ replicate 7 0) ≡ taken (answers.notice (answers.paired 1 false 0x2010 0x401A 0)) (paired_keyboard fresh_port)

@@ -1,5 +1,5 @@
 -- What a console's author reads off the demands: each field of the statement is used here, in other words, so that none of them can say less.
-use Rattle.std.specs.Prelude.{ℕ, ◌+◌, ◌≤◌, Bool, ◌&&◌, ◌||◌, List, [], ◌∷◌, ◌++◌, map, length, get_or, replicate}
+use Rattle.std.specs.Prelude.{ℕ, ◌+◌, ◌≤◌, Bool, ◌&&◌, ◌||◌, List, [], ◌∷◌, ◌++◌, map, length, get_or, replicate, Option, Some, None}
 use Rattle.std.proofs.Math.Path.{◌≡◌, refl, sym, ap}
 use Rattle.std.proofs.Common.{◌∙◌, subst, true≢false, arith}
 use Rattle.std.proofs.Math.Bool.{true, false, cond}
@@ -12,14 +12,10 @@ use Rattle.report.specs.Reading as reading
 use Rattle.report.specs.Reading.{Read, report_from, hidpp_rule, dj_rule, family_rule, read_rule}
 use Rattle.frame.specs.Writing.{request_frame_rule, switch_rule, get_paired_rule, led_rule, WriteOutcome, fits_at}
 use Rattle.mouse.specs.Movement.{mouse_rule}
-use Rattle.frame.specs.declared.Written.{Written}
+use Rattle.frame.specs.FrameContracts.{Written}
 use Rattle.frame.specs.FrameContracts.{written_of, written_outcome}
 use Rattle.port.specs.declared.Port.{Port}
 use Rattle.port.specs.declared.Request.{Request}
-use Rattle.port.specs.declared.Serial.{Serial}
-use Rattle.port.specs.declared.Serial.TheVariants.{Unknown, Known}
-use Rattle.port.specs.declared.Version.TheVariants as versions
-use Rattle.port.specs.declared.Battery.TheVariants as batteries
 use Rattle.port.specs.Records.{empty_place, fresh_port, made_fresh, request_in, with_pairing, with_serial}
 use Rattle.port.specs.Places.{is_empty, matches}
 use Rattle.port.proofs.SearchingExamples.{twins, lower_twin}
@@ -48,12 +44,12 @@ use Rattle.blotterfinch.proofs.blotterfinch_get_paired_frame.Reads as get_paired
 use Rattle.blotterfinch.proofs.blotterfinch_led_frame.Reads as led_reads
 use Rattle.blotterfinch.proofs.blotterfinch_mouse.Reads as mouse_reads
 use Rattle.station.specs.declared.Station.{Station}
-use Rattle.station.specs.declared.TakeResult.{TakeResult}
-use Rattle.station.specs.declared.RequestResult.{RequestResult}
-use Rattle.station.specs.declared.CancelResult.{CancelResult}
-use Rattle.station.specs.declared.TickResult.{TickResult}
+use Rattle.station.specs.StationContracts.{TakeResult}
+use Rattle.station.specs.StationContracts.{RequestResult}
+use Rattle.station.specs.StationContracts.{CancelResult}
+use Rattle.station.specs.StationContracts.{TickResult}
 use Rattle.station.specs.StationContracts.{take_outcome, request_outcome, cancel_outcome, tick_outcome, restore_outcome}
-use Rattle.station.specs.declared.RestoreResult.{RestoreResult}
+use Rattle.station.specs.StationContracts.{RestoreResult}
 use Rattle.station.specs.StationCalls.{RestoreOutcome, restored_to}
 use Rattle.store.specs.Stores.{store_text, stored_of, Store}
 use Rattle.restore.specs.Restoring.{restored, refused, refused_at}
@@ -97,14 +93,14 @@ other_device w bytes n e (reading.dj x) h p r = simp e
 other_device w bytes n e (reading.empty_list x) h p r = refl
 
 -- a serial that is known is not unknown
-known_so : {known : ℕ} → Unknown ≡ Known known → ⊥
+known_so : {known : ℕ} → None ≡ Some known → ⊥
 known_so e = true≢false (ap unknown e)
   where
-    unknown : Serial → Bool
-    unknown Unknown = true
-    unknown (Known known) = false
+    unknown : Option ℕ → Bool
+    unknown None = true
+    unknown (Some known) = false
 
-same_known : {a b : ℕ} → Known a ≡ Known b → a ≡ b
+same_known : {a b : ℕ} → Some a ≡ Some b → a ≡ b
 same_known e = cc e
 
 -- a call for a device stays for no other port
@@ -156,7 +152,7 @@ module _ (d : Demands) where
 
   -- a refused request leaves the station, and the buffer
   module _ (st : Station) (device byte2 byte3 ticks : ℕ) (params : List ℕ) (offset : ℕ) (lent : List ℕ) (r : RequestResult) (after : List ℕ) (e : Ensured st (request device byte2 byte3 ticks params offset lent) (request_step params (request_outcome r after))) (q : is_refusal (written (written_of r.answer)) ≡ true) where
-    refused_station : r.station ≡ st
+    refused_station : r.next ≡ st
     refused_station = d.station_kept st _ _ e q
 
     refused_buffer : after ≡ lent
@@ -226,7 +222,7 @@ module _ (d : Demands) where
     unfolding read_rule family_rule hidpp_rule report_from length_of
     ping_answered e = (d.replies st k (ping_reply 0x5B) r e).1 (refl, (refl, (place, own_reply)))
 
-    late_ping : Ensured st (take (ping_reply 0x5A)) (take_step (ping_reply 0x5A) (take_outcome r)) → (taken_of r.answer ≡ answers.stray about_reply) × (r.station ≡ st)
+    late_ping : Ensured st (take (ping_reply 0x5A)) (take_step (ping_reply 0x5A) (take_outcome r)) → (taken_of r.answer ≡ answers.stray about_reply) × (r.next ≡ st)
     unfolding read_rule family_rule hidpp_rule report_from length_of message_of
     late_ping e =
         d.other_pings st k (ping_reply 0x5A) r e (record {
@@ -239,7 +235,7 @@ module _ (d : Demands) where
         })
 
   -- so does a long one that comes for the receiver's ping
-  late_receiver : (st : Station) → Reached st → (place : ℕ) → request_in (port_for st 255).places place ≡ ping → (r : TakeResult) → Ensured st (take receiver_reply) (take_step receiver_reply (take_outcome r)) → r.station ≡ st
+  late_receiver : (st : Station) → Reached st → (place : ℕ) → request_in (port_for st 255).places place ≡ ping → (r : TakeResult) → Ensured st (take receiver_reply) (take_step receiver_reply (take_outcome r)) → r.next ≡ st
   unfolding read_rule family_rule hidpp_rule report_from length_of
   late_receiver st k place is r e =
       (d.other_pings st k receiver_reply r e (record {
@@ -273,7 +269,7 @@ module _ (d : Demands) where
     error_only = (d.errors st k bytes r e).0
 
     -- what device 3 sends leaves every request of device 2 as it was: a HID++ report too, since only port 255 tells a serial
-    device_3_for_device_2 : byte bytes 1 ≡ 3 → (place : ℕ) → request_in (port_for r.station 2).places place ≡ request_in (port_for st 2).places place
+    device_3_for_device_2 : byte bytes 1 ≡ 3 → (place : ℕ) → request_in (port_for r.next 2).places place ≡ request_in (port_for st 2).places place
     unfolding report_from
     device_3_for_device_2 q place =
         d.ends st k bytes r e 2 refl place ∙ ap (λ (b : Bool). cond b empty_place (request_in (port_for st 2).places place)) (go (is_hidpp_read (read_rule bytes)) refl)
@@ -292,23 +288,23 @@ module _ (d : Demands) where
     one_at_most = d.at_most_one st k bytes
 
     -- another serial of device 2 ends every request that waits there
-    twin_drops : is_hidpp_read (read_rule bytes) ≡ true → ¬ (byte bytes 1 ≡ 2) → Swaps st bytes 2 → (place : ℕ) → is_empty (request_in (port_for st 2).places place) ≡ false → request_in (port_for r.station 2).places place ≡ empty_place
+    twin_drops : is_hidpp_read (read_rule bytes) ≡ true → ¬ (byte bytes 1 ≡ 2) → Swaps st bytes 2 → (place : ℕ) → is_empty (request_in (port_for st 2).places place) ≡ false → request_in (port_for r.next 2).places place ≡ empty_place
     twin_drops h away s place waits =
         d.ends st k bytes r e 2 refl place ∙ ap (λ (b : Bool). cond b empty_place (request_in (port_for st 2).places place)) ((d.beside st k bytes h 2 refl away place).1 (s, waits))
 
     -- what is told of a paired device is kept, and a first serial leaves its version
     module _ (h : is_hidpp_read (read_rule bytes) ≡ true) (number : ℕ) (g : Gives (port_for st 255) (report_from hidpp_start bytes) bytes 2 number) (paired : (port_for st 2).paired ≡ true) where
-      serial_kept : (port_for r.station 2).serial ≡ Known number
+      serial_kept : (port_for r.next 2).serial ≡ Some number
       unfolding with_serial
       serial_kept = let t = d.serials st k bytes r e h 2 number g in ap (λ (p : Port). p.serial) t.port ∙ go t.so
         where
-          go : {x : SerialResult} → SerialCase (port_for st 2) number x → x.port.serial ≡ Known number
+          go : {x : SerialResult} → SerialCase (port_for st 2) number x → x.port.serial ≡ Some number
           go (keeps_none z) = absurd (true≢false (sym paired ∙ z))
           go (first_serial z y) = refl
           go (same_serial z y) = y
           go (other_serial known z y differs) = refl
 
-      version_kept : (port_for st 2).serial ≡ Unknown → ((port_for r.station 2).version ≡ (port_for st 2).version) × (taken_drops (taken_of r.answer) ≡ 0)
+      version_kept : (port_for st 2).serial ≡ None → ((port_for r.next 2).version ≡ (port_for st 2).version) × (taken_drops (taken_of r.answer) ≡ 0)
       unfolding with_serial
       version_kept unknown =
           let t = d.serials st k bytes r e h 2 number g in
@@ -322,21 +318,21 @@ module _ (d : Demands) where
           go (other_serial known z y differs) = absurd (known_so (sym unknown ∙ y))
 
       -- of another pad nothing is known but its pairing, its model and its reports, and the serial
-      twin_forgets : (known : ℕ) → (port_for st 2).serial ≡ Known known → ¬ (known ≡ number) → port_for r.station 2 ≡ record {
+      twin_forgets : (known : ℕ) → (port_for st 2).serial ≡ Some known → ¬ (known ≡ number) → port_for r.next 2 ≡ record {
         paired = true;
         wpid = (port_for st 2).wpid;
         reports = (port_for st 2).reports;
         up = false;
-        version = versions.Unknown;
+        version = None;
         features = replicate 5 (record { 0 = 0 });
-        battery = batteries.Unknown;
-        serial = Known number;
+        battery = None;
+        serial = Some number;
         places = replicate 4 empty_place;
       }
       unfolding with_serial with_pairing made_fresh fresh_port
       twin_forgets before is differs = let t = d.serials st k bytes r e h 2 number g in t.port ∙ go t.so
         where
-          go : {x : SerialResult} → SerialCase (port_for st 2) number x → x.port ≡ with_serial (with_pairing (made_fresh (port_for st 2)) (port_for st 2).wpid (port_for st 2).reports) (Known number)
+          go : {x : SerialResult} → SerialCase (port_for st 2) number x → x.port ≡ with_serial (with_pairing (made_fresh (port_for st 2)) (port_for st 2).wpid (port_for st 2).reports) (Some number)
           go (keeps_none z) = absurd (true≢false (sym paired ∙ z))
           go (first_serial z y) = absurd (known_so (sym y ∙ is))
           go (same_serial z y) = absurd (differs (same_known (sym is ∙ y)))
@@ -348,7 +344,7 @@ module _ (d : Demands) where
     ping_drops_none q = d.no_drops st k bytes r e (λ n number g. let z : ◌≡◌ {A = ℕ} 0 0x83 = sym q ∙ g.byte2 in omega arith)
 
   -- a cancel leaves every battery
-  cancel_keeps_batteries : (st : Station) → Reached st → (device byte2 byte3 : ℕ) (r : CancelResult) → Ensured st (cancel device byte2 byte3) (cancel_step (cancel_outcome r)) → (n : ℕ) → is_port n ≡ true → (port_for r.station n).battery ≡ (port_for st n).battery
+  cancel_keeps_batteries : (st : Station) → Reached st → (device byte2 byte3 : ℕ) (r : CancelResult) → Ensured st (cancel device byte2 byte3) (cancel_step (cancel_outcome r)) → (n : ℕ) → is_port n ≡ true → (port_for r.next n).battery ≡ (port_for st n).battery
   unfolding begins
   cancel_keeps_batteries st k device byte2 byte3 r e n h =
       d.changes st k (cancel device byte2 byte3) (cancel_step (cancel_outcome r)) e refl n h battery (go (eqb device n))
@@ -358,7 +354,7 @@ module _ (d : Demands) where
       go false = refl
 
   -- what a tick says of a port is what it ended there: what waited waits or is counted
-  tick_counts : (st : Station) → Reached st → (r : TickResult) → Ensured st tick (tick_step (tick_outcome r)) → (n : ℕ) → is_port n ≡ true → waiting_on (port_for r.station n) + ended_in_all n (ending_of n tick (ticked r.ended)) ≡ waiting_on (port_for st n) + 0
+  tick_counts : (st : Station) → Reached st → (r : TickResult) → Ensured st tick (tick_step (tick_outcome r)) → (n : ℕ) → is_port n ≡ true → waiting_on (port_for r.next n) + ended_in_all n (ending_of n tick (ticked r.ended)) ≡ waiting_on (port_for st n) + 0
   unfolding begins
   tick_counts st k r e n h = (d.counts st k tick (tick_step (tick_outcome r)) e refl n h).balance
 
@@ -367,7 +363,7 @@ module _ (d : Demands) where
   new_begins = d.starts
 
   -- so is one that a store restores, and what follows is a sequence of its own
-  read_begins : (st : Station) (text : List ℕ) (r : RestoreResult) → Ensured st (restore text) (restore_step text (restore_outcome r)) → begins (restore text) ≡ true → Start r.station
+  read_begins : (st : Station) (text : List ℕ) (r : RestoreResult) → Ensured st (restore text) (restore_step text (restore_outcome r)) → begins (restore text) ≡ true → Start r.next
   read_begins st text r = d.restarts st (restore text) (restore_step text (restore_outcome r))
 
   made_of_sequences : (st : Station) → Start st → (ms : List Made) → History st ms → Sequences st ms
@@ -375,14 +371,14 @@ module _ (d : Demands) where
 
   -- a store is read: its ports, and no others
   module _ (st : Station) (text : List ℕ) (r : RestoreResult) (e : Ensured st (restore text) (restore_step text (restore_outcome r))) where
-    store_restores : (ports : List Port) → Store text ports → r.station.ports ≡ ports
+    store_restores : (ports : List Port) → Store text ports → r.next.ports ≡ ports
     store_restores ports s = ap (λ (o : RestoreOutcome). o.station.ports) ((d.stores st text r e ports).1 s)
 
     only_stores : (ports : List Port) → restore_outcome r ≡ restored_to (accepted ports) → Store text ports
     only_stores ports = (d.stores st text r e ports).0
 
     -- a file of a later edition is refused with 15, and of nothing else
-    later_refused : OtherEdition text → (restored_of r.answer ≡ refused 15) × (r.station ≡ st)
+    later_refused : OtherEdition text → (restored_of r.answer ≡ refused 15) × (r.next ≡ st)
     later_refused h =
         let z = (d.other_editions st text r e).1 h in
         (ap (λ (o : RestoreOutcome). o.answer) z, ap (λ (o : RestoreOutcome). o.station) z)
@@ -391,7 +387,7 @@ module _ (d : Demands) where
     only_later = (d.other_editions st text r e).0
 
     -- a line that breaks the rules is told by its number
-    line_told : (line : ℕ) → BrokenAt text line → (restored_of r.answer ≡ refused_at 16 line) × (r.station ≡ st)
+    line_told : (line : ℕ) → BrokenAt text line → (restored_of r.answer ≡ refused_at 16 line) × (r.next ≡ st)
     line_told line h =
         let z = (d.broken_lines st text r e line).1 h in
         (ap (λ (o : RestoreOutcome). o.answer) z, ap (λ (o : RestoreOutcome). o.station) z)
@@ -412,7 +408,7 @@ module _ (d : Demands) where
   begun_restored st c o e = (d.begun st c o e).0
 
   -- a restart: the pads are back, whatever the calls before were
-  pads_back : (st : Station) → Start st → (ms : List Made) → History st ms → AllRead (map call_of ms) → (other : Station) (r : RestoreResult) → Ensured other (restore (store_text (station_after st ms).ports)) (restore_step (store_text (station_after st ms).ports) (restore_outcome r)) → r.station.ports ≡ map stored_of (station_after st ms).ports
+  pads_back : (st : Station) → Start st → (ms : List Made) → History st ms → AllRead (map call_of ms) → (other : Station) (r : RestoreResult) → Ensured other (restore (store_text (station_after st ms).ports)) (restore_step (store_text (station_after st ms).ports) (restore_outcome r)) → r.next.ports ≡ map stored_of (station_after st ms).ports
   pads_back st begun ms k bytes other r e =
       ap (λ (o : RestoreOutcome). o.station.ports) (d.read_back st begun ms k bytes other r e)
 
@@ -506,7 +502,7 @@ module _ (d : Demands) where
 
   -- encoded calls end with the station of the rules' run, and their rows are its answers
   module _ (κ κ' κ'' : List ℕ) (st : Station) (encoded : Bor (List ℕ)) (arena arena_after answers answers_after : MutBor (List ℕ)) (r : RunResult) (e : run_reads.Learnt (κ, (κ', (κ'', tt))) (st, (encoded, (arena, (answers, tt)))) r (st, (encoded, (arena_after, (answers_after, tt))))) (cs : List Call) (decoded : decode encoded.now arena.now ≡ calls cs) (room : rows_size cs ≤ length answers.now) where
-    run_ends : r.station ≡ run st cs
+    run_ends : r.next ≡ run st cs
     unfolding ran
     run_ends = ap (λ (o : EncodedOutcome). o.station) (d.runs κ κ' κ'' st encoded arena arena_after answers answers_after r e cs decoded room)
 

@@ -1,7 +1,7 @@
 -- The three demands: the proof.
 use Rattle.std.specs.Prelude.{ℕ, ◌≡◌, ◌↔◌, true, length, List, map}
 use Rattle.std.proofs.Common.{sym, ◌∙◌, ap, subst}
-use Rattle.frame.specs.declared.Written.{Written}
+use Rattle.frame.specs.FrameContracts.{Written}
 use Rattle.frame.specs.Writing.{WriteAnswer, WriteOutcome, wrote, fits_at, pasted, frame_at}
 use Rattle.frame.specs.FrameContracts.{written_outcome}
 use Rattle.port.specs.Answers.{Answer}
@@ -12,8 +12,8 @@ use Rattle.keeping.specs.Keeping.{Storable, accepted}
 use Rattle.keeping.proofs.KeepingLaws.{keeping}
 use Rattle.station.specs.declared.Station.{Station}
 use Rattle.station.specs.StationCalls.{RestoreOutcome, restored_to, restore_rule}
-use Rattle.station.specs.declared.TakeResult.{TakeResult}
-use Rattle.station.specs.declared.RestoreResult.{RestoreResult}
+use Rattle.station.specs.StationContracts.{TakeResult}
+use Rattle.station.specs.StationContracts.{RestoreResult}
 use Rattle.station.specs.StationContracts.{take_outcome, restore_outcome}
 use Rattle.station.specs.StationTaking.{take_rule}
 use Rattle.sequence.specs.Starts.{Start, fresh}
@@ -76,11 +76,11 @@ same_taken : {a b : Answer} → steps.taken a ≡ steps.taken b → a ≡ b
 same_taken e = cc
 
 -- a take by its contract
-taken : (st : Station) → Reached st → (bytes : List ℕ) (r : TakeResult) → Ensured st (take bytes) (take_step bytes (take_outcome r)) → Completion st bytes (taken_of r.answer) r.station
+taken : (st : Station) → Reached st → (bytes : List ℕ) (r : TakeResult) → Ensured st (take bytes) (take_step bytes (take_outcome r)) → Completion st bytes (taken_of r.answer) r.next
 unfolding step
 taken st k bytes r e =
     let m = histories.met e in
-    subst (λ (a : Answer). Completion st bytes a r.station) (sym (same_taken (ap (λ (o : Outcome). o.answer) m))) (subst (Completion st bytes (take_rule st bytes).answer) (sym (ap (λ (o : Outcome). o.station) m)) (complete.completes st k bytes))
+    subst (λ (a : Answer). Completion st bytes a r.next) (sym (same_taken (ap (λ (o : Outcome). o.answer) m))) (subst (Completion st bytes (take_rule st bytes).answer) (sym (ap (λ (o : Outcome). o.station) m)) (complete.completes st k bytes))
 
 same_restoring : {a b : RestoreAnswer} → steps.restoring a ≡ steps.restoring b → a ≡ b
 same_restoring e = cc
@@ -160,7 +160,7 @@ demands =
       compares_count = λ n o q xs ys a b e. let h = same_count e in cc (a, b, h);
       orders = histories.orders;
       cut = histories.cut;
-      accounted = λ n h st begun ms k unread. let r = histories.history st ms k in accounted_so n st ms r.entries r.station (complete.accounted n h st begun (map call_of ms) unread);
+      accounted = λ n h st begun ms k unread. let r = histories.history st ms k in accounted_so n st ms r.entries r.next (complete.accounted n h st begun (map call_of ms) unread);
       runs = λ κ κ' κ'' st encoded arena arena_after answers answers_after r e. demand3.run_encoded st encoded.now arena.now answers.now r arena_after.now answers_after.now e;
       rows = λ κ κ' κ'' st encoded arena arena_after answers answers_after r e seven. demand3.program_rows st seven encoded.now arena.now answers.now r arena_after.now answers_after.now e;
       of_the_rules = complete;

@@ -4,7 +4,7 @@ use Rattle.std.specs.Borrow.{Bor, MutBor}
 use Rattle.report.specs.Ports.{is_device, is_port}
 use Rattle.report.specs.Sizes.{byte, hidpp_start}
 use Rattle.report.specs.Reading.{report_from, read_rule}
-use Rattle.frame.specs.declared.Written.{Written}
+use Rattle.frame.specs.FrameContracts.{Written}
 use Rattle.frame.specs.Writing.{WriteOutcome, wrote, fits_at, pasted}
 use Rattle.frame.specs.FrameContracts.{written_outcome}
 use Rattle.restore.specs.Restoring.{restored}
@@ -20,8 +20,8 @@ use Rattle.store.specs.Stores.{store_text, stored_of, Store}
 use Rattle.keeping.specs.Lines.{OtherEdition, BrokenAt}
 use Rattle.keeping.specs.Keeping.{accepted, refused_other, refused_broken, StoresKept}
 use Rattle.station.specs.declared.Station.{Station}
-use Rattle.station.specs.declared.TakeResult.{TakeResult}
-use Rattle.station.specs.declared.RestoreResult.{RestoreResult}
+use Rattle.station.specs.StationContracts.{TakeResult}
+use Rattle.station.specs.StationContracts.{RestoreResult}
 use Rattle.station.specs.StationCalls.{restored_to}
 use Rattle.station.specs.StationContracts.{take_outcome, restore_outcome}
 use Rattle.station.specs.Stations.{port_count, position_of, port_for}
@@ -68,18 +68,18 @@ pub record Demands : Type 0 where
   -- A reply completes a request exactly when one waits on the device that byte 1 names with the same bytes 2 and 3 and, of a ping (byte 2 = 0, function 1), with the same third parameter
   pub replies : (st : Station) → Reached st → (bytes : List ℕ) (r : TakeResult) → Ensured st (take bytes) (take_step bytes (take_outcome r)) → (is_reply (taken_of r.answer) ≡ true) ↔ Replies st bytes
   -- Where a ping waits there with the same bytes 2 and 3, and its third parameter differs, the report is stray, whatever the version, and changes nothing
-  pub other_pings : (st : Station) → Reached st → (bytes : List ℕ) (r : TakeResult) → Ensured st (take bytes) (take_step bytes (take_outcome r)) → OtherPing st bytes → (taken_of r.answer ≡ carried stray (message_of (report_from hidpp_start bytes) bytes)) × (r.station ≡ st)
+  pub other_pings : (st : Station) → Reached st → (bytes : List ℕ) (r : TakeResult) → Ensured st (take bytes) (take_step bytes (take_outcome r)) → OtherPing st bytes → (taken_of r.answer ≡ carried stray (message_of (report_from hidpp_start bytes) bytes)) × (r.next ≡ st)
   -- An error, exactly when one waits there with the two bytes that the error names, and its kind fits that request
   pub errors : (st : Station) → Reached st → (bytes : List ℕ) (r : TakeResult) → Ensured st (take bytes) (take_step bytes (take_outcome r)) → (is_failure (taken_of r.answer) ≡ true) ↔ Fails st bytes
   -- Each ends that one and no other: of every port, the place of the request that it answers is emptied, and every other place stays. DJ reports complete none, and drop all of a port's requests exactly at 0x40, and at 0x41 with another WPID or for a device that is not paired. A reply that gives another serial of a device drops all of that device's requests beside the one that it ends
-  pub ends : (st : Station) → Reached st → (bytes : List ℕ) (r : TakeResult) → Ensured st (take bytes) (take_step bytes (take_outcome r)) → (n : ℕ) → is_port n ≡ true → (place : ℕ) → request_in (port_for r.station n).places place ≡ cond (ends_in st bytes n place) empty_place (request_in (port_for st n).places place)
+  pub ends : (st : Station) → Reached st → (bytes : List ℕ) (r : TakeResult) → Ensured st (take bytes) (take_step bytes (take_outcome r)) → (n : ℕ) → is_port n ≡ true → (place : ℕ) → request_in (port_for r.next n).places place ≡ cond (ends_in st bytes n place) empty_place (request_in (port_for st n).places place)
   -- A HID++ report ends at most one request on the port that it names, and on another port none but where it gives another serial of that device
   pub at_most_one : (st : Station) → Reached st → (bytes : List ℕ) → is_hidpp_read (read_rule bytes) ≡ true → (i j : ℕ) → ends_in st bytes (byte bytes 1) i ≡ true → ends_in st bytes (byte bytes 1) j ≡ true → i ≡ j
   pub beside : (st : Station) → Reached st → (bytes : List ℕ) → is_hidpp_read (read_rule bytes) ≡ true → (n : ℕ) → is_port n ≡ true → ¬ (byte bytes 1 ≡ n) → (i : ℕ) → (ends_in st bytes n i ≡ true) ↔ (Swaps st bytes n × (is_empty (request_in (port_for st n).places i) ≡ false))
   -- The three searches over waiting places, `port::first_match`, `port::first_empty` and `matching::first_answered`, give the lowest that matches, or none exactly when none does: of any places, two equal ones too and such as no call reaches. What that comes to at a port is in `of_the_rules` (`lowest`)
   pub searches : ProgramSearches
   -- A long reply on port 255 to the request for register B5 that waits with first parameter 0x30 + device − 1, with the same first parameter (`Gives`), gives that device's serial: where the device is paired, the port has it, and where a different one was known, the port is first made fresh but for pairing, WPID and bitfield; the answer counts the requests dropped so
-  pub serials : (st : Station) → Reached st → (bytes : List ℕ) (r : TakeResult) → Ensured st (take bytes) (take_step bytes (take_outcome r)) → is_hidpp_read (read_rule bytes) ≡ true → (n number : ℕ) → Gives (port_for st 255) (report_from hidpp_start bytes) bytes n number → Told (port_for st n) (port_for r.station n) number (taken_of r.answer)
+  pub serials : (st : Station) → Reached st → (bytes : List ℕ) (r : TakeResult) → Ensured st (take bytes) (take_step bytes (take_outcome r)) → is_hidpp_read (read_rule bytes) ≡ true → (n number : ℕ) → Gives (port_for st 255) (report_from hidpp_start bytes) bytes n number → Told (port_for st n) (port_for r.next n) number (taken_of r.answer)
   -- Every other reply drops none
   pub no_drops : (st : Station) → Reached st → (bytes : List ℕ) (r : TakeResult) → Ensured st (take bytes) (take_step bytes (take_outcome r)) → ((n number : ℕ) → ¬ Gives (port_for st 255) (report_from hidpp_start bytes) bytes n number) → taken_drops (taken_of r.answer) ≡ 0
   -- A store is read as document 02 says: the next station is that of these ports exactly where the text is their store; it is refused with 15 exactly where its first line is that of another edition; and with 16 and a line's number exactly where that line is the first that breaks the rules. A refused read leaves the station

@@ -16,10 +16,14 @@ framed head rest = head.id ∷ head.device.0 ∷ head.byte2 ∷ head.byte3 ∷ r
 unfoldable pub dj_head : ℕ → ℕ → ℕ → Head
 dj_head device kind p0 = record { id = dj_short; device = record { 0 = device }; byte2 = kind; byte3 = p0 }
 
-abbrev pub written_of : Result ℕ Refusal → WriteAnswer
+-- what a writer of the program answers
+abbrev pub Written : Type 0
+Written = Result ℕ Refusal
+
+abbrev pub written_of : Written → WriteAnswer
 written_of (Err r) = refused (number_of r)
 written_of (Ok n) = wrote n
 
 -- how a writer ended: its answer, and the buffer that it left
-abbrev pub written_outcome : Result ℕ Refusal → List ℕ → WriteOutcome
+abbrev pub written_outcome : Written → List ℕ → WriteOutcome
 written_outcome written lent = record { answer = written_of written; lent = lent }

@@ -1,14 +1,11 @@
 -- What follows from the statement of a store that is read back, for texts and ports at hand.
-use Rattle.std.specs.Prelude.{ℕ, zero, suc, ◌<◌, ◌≡◌, ◌⊎◌, true, false, length, get_or, replicate}
+use Rattle.std.specs.Prelude.{ℕ, zero, suc, ◌<◌, ◌≡◌, ◌⊎◌, true, false, length, get_or, replicate, Some, None}
 use Rattle.std.proofs.Math.Path.{refl}
 use Rattle.std.proofs.Common.{sym, ◌∙◌, ap, inl, inr, arith}
 use Rattle.std.proofs.lemmas.Bool.{false≢true}
 use mathlib.Core.List.{List, [], ◌∷◌, ◌++◌}
 use Rattle.report.specs.Ports.{device_count}
 use Rattle.port.specs.declared.Port.{Port}
-use Rattle.port.specs.declared.Version.TheVariants as versions
-use Rattle.port.specs.declared.Battery.TheVariants as batteries
-use Rattle.port.specs.declared.Serial.TheVariants as serials
 use Rattle.port.specs.Records.{feature_count, empty_place, fresh_port}
 use Rattle.text.specs.Words.{ascii}
 use Rattle.store.specs.Stores.{edition_line, store_text, pad_port, stored_of, IndexesFit, PadFits, Store}
@@ -26,10 +23,10 @@ busy =
       wpid = 0x2010;
       reports = 0x0000000E;
       up = true;
-      version = versions.Known 2 0;
+      version = Some (record { major = 2; minor = 0 });
       features = replicate feature_count (record { 0 = 0 });
-      battery = batteries.Known 50 20 0;
-      serial = serials.Unknown;
+      battery = Some (record { level = 50; next = 20; status = 0 });
+      serial = None;
       places = record { byte2 = record { 0 = 0 }; byte3 = 0x1A; first = record { 0 = 0; 1 = 0; 2 = 0x55 }; ticks = 3 } ∷ replicate 3 empty_place;
     }
 

@@ -1,6 +1,6 @@
 -- Laws of the lines of a text: 16 names the first that breaks the rules, and every text is one of three.
 use Prim.Native.Nat.{ℕ, zero, suc, ◌+◌, ◌-◌, ◌/◌, ◌%◌, ◌≤◌, ◌<◌}
-use Rattle.std.specs.Prelude.{◌≡◌, ◌↔◌, ◌⊎◌, Bool, true, false, cond, ltb, eqb}
+use Rattle.std.specs.Prelude.{◌≡◌, ◌↔◌, ◌⊎◌, Bool, true, false, cond, ltb, eqb, Option, Some, None}
 use Rattle.std.proofs.Math.Path.{refl, ap, subst}
 use Rattle.std.proofs.Common.{sym, ◌∙◌, inl, inr, not-suc-le-zero, eqb-true, ne_eqb, ltb-true, ltb-false}
 use mathlib.Core.List.{List, [], ◌∷◌, ◌++◌, append_assoc}
@@ -10,9 +10,6 @@ use Rattle.report.specs.Ports.{device_count}
 use Rattle.report.specs.declared.FeatureIndex.{FeatureIndex}
 use Rattle.port.specs.declared.Port.{Port}
 use Rattle.port.specs.declared.Version.{Version}
-use Rattle.port.specs.declared.Version.TheVariants as versions
-use Rattle.port.specs.declared.Serial.{Serial}
-use Rattle.port.specs.declared.Serial.TheVariants as serials
 use Rattle.port.specs.Records.{fresh_port}
 use Rattle.text.specs.Words.{ascii, newline, digit, hex, decimal}
 use Rattle.text.proofs.WordsLaws.{decimal_last, decimal_more}
@@ -64,16 +61,16 @@ plain_decimal_in (suc fuel) n h = go (ltb n 10) refl (plain_decimal_in fuel (n /
 plain_decimal : (n : ℕ) → Plain (decimal n)
 plain_decimal n = plain_decimal_in (suc n) n (omega arith)
 
-plain_serial : (x : Serial) → Plain (serial_text x)
+plain_serial : (x : Option ℕ) → Plain (serial_text x)
 unfolding serial_text Plain
-plain_serial serials.Unknown = ((λ e. omega (arith, e)), tt)
-plain_serial (serials.Known number) = plain_hex digits32 number
+plain_serial None = ((λ e. omega (arith, e)), tt)
+plain_serial (Some number) = plain_hex digits32 number
 
-plain_version : (x : Version) → Plain (version_text x)
+plain_version : (x : Option Version) → Plain (version_text x)
 unfolding version_text Plain
-plain_version versions.Unknown = ((λ e. omega (arith, e)), tt)
-plain_version (versions.Known major minor) =
-    plain_append (decimal major) (ascii "." ++ decimal minor) (plain_decimal major) ((λ e. omega (arith, e)), plain_decimal minor)
+plain_version None = ((λ e. omega (arith, e)), tt)
+plain_version (Some version) =
+    plain_append (decimal version.major) (ascii "." ++ decimal version.minor) (plain_decimal version.major) ((λ e. omega (arith, e)), plain_decimal version.minor)
 
 -- a line: its newline is its last byte, and it has no other
 record ALine (text : List ℕ) : Type 0 where

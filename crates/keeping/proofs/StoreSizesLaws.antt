@@ -1,12 +1,9 @@
 -- Laws of the length of a store: the fields of a line at their longest, and the byte after each.
-use Rattle.std.specs.Prelude.{ℕ, suc, ◌+◌, ◌*◌, ◌≤◌, ◌<◌, ◌≡◌, refl, Bool, true, false, List, [], ◌∷◌, ◌++◌, length}
+use Rattle.std.specs.Prelude.{ℕ, suc, ◌+◌, ◌*◌, ◌≤◌, ◌<◌, ◌≡◌, refl, Bool, true, false, List, [], ◌∷◌, ◌++◌, length, Option, Some, None}
 use Rattle.std.proofs.Common.{◌∙◌, ap, arith, length-append}
 use Rattle.report.specs.declared.FeatureIndex.{FeatureIndex}
 use Rattle.port.specs.declared.Port.{Port}
 use Rattle.port.specs.declared.Version.{Version}
-use Rattle.port.specs.declared.Version.TheVariants as versions
-use Rattle.port.specs.declared.Serial.{Serial}
-use Rattle.port.specs.declared.Serial.TheVariants as serials
 use Rattle.port.specs.Records.{fresh_port}
 use Rattle.text.specs.Words.{newline, digit, hex, decimal, decimal_in}
 use Rattle.text.proofs.WordsLaws.{length_hex, length_decimal}
@@ -17,19 +14,19 @@ use Rattle.store.specs.Stores.{edition, edition_line, index_text, pad_line, stor
 use Rattle.store.proofs.StoresLaws.{pad_line_law}
 use Rattle.keeping.proofs.ReadingLaws.{lines_from, paired_line, no_line, store_lines}
 
-serial_size : (x : Serial) → length (serial_text x) ≤ 8
+serial_size : (x : Option ℕ) → length (serial_text x) ≤ 8
 unfolding serial_text
-serial_size serials.Unknown = omega arith
-serial_size (serials.Known number) = omega (arith, length_hex digits32 number)
+serial_size None = omega arith
+serial_size (Some number) = omega (arith, length_hex digits32 number)
 
-version_size : (x : Version) → VersionFits x → length (version_text x) ≤ 7
+version_size : (x : Option Version) → VersionFits x → length (version_text x) ≤ 7
 unfolding version_text
-version_size versions.Unknown h = omega arith
-version_size (versions.Known major minor) h =
-    let a : length (decimal major) ≤ 3 = length_decimal 2 major (omega (arith, h.0)) in
-    let b : length (decimal minor) ≤ 3 = length_decimal 2 minor (omega (arith, h.1)) in
-    let c : length ((point ∷ []) ++ decimal minor) ≡ 1 + length (decimal minor) = length-append (point ∷ []) (decimal minor) in
-    omega (arith, a, b, c, length-append (decimal major) ((point ∷ []) ++ decimal minor))
+version_size None h = omega arith
+version_size (Some version) h =
+    let a : length (decimal version.major) ≤ 3 = length_decimal 2 version.major (omega (arith, h.0)) in
+    let b : length (decimal version.minor) ≤ 3 = length_decimal 2 version.minor (omega (arith, h.1)) in
+    let c : length ((point ∷ []) ++ decimal version.minor) ≡ 1 + length (decimal version.minor) = length-append (point ∷ []) (decimal version.minor) in
+    omega (arith, a, b, c, length-append (decimal version.major) ((point ∷ []) ++ decimal version.minor))
 
 indexes_size : (n : ℕ) (features : List FeatureIndex) → IndexesFit features → length (each_from index_text n features) ≤ 3 * length features
 unfolding each_from IndexesFit

@@ -1,9 +1,8 @@
 -- Document 02, Ask 3: reading what was written gives back what a store keeps, and writing what was read gives the text back.
-use Rattle.std.specs.Prelude.{ℕ, suc, ◌≤◌, ◌<◌, ◌≡◌, ◌↔◌, true, false, List, map, length, get_or}
+use Rattle.std.specs.Prelude.{ℕ, suc, ◌≤◌, ◌<◌, ◌≡◌, ◌↔◌, true, false, List, map, length, get_or, None}
 use Rattle.report.specs.Refusals as refusals
 use Rattle.report.specs.Ports.{device_count}
 use Rattle.port.specs.declared.Port.{Port}
-use Rattle.port.specs.declared.Battery.TheVariants as batteries
 use Rattle.port.specs.Records.{fresh_port}
 use Rattle.store.specs.Stores.{store_text, stored_of, PadFits, Store}
 use Rattle.restore.specs.Restoring.{store_of, read_store, restored, refused, refused_at, Restoring, restore_ports}
@@ -24,7 +23,7 @@ pub record ReadBack (p q : Port) : Type 0 where
   pub version : q.version ≡ p.version
   pub features : q.features ≡ p.features
   pub up : q.up ≡ false
-  pub battery : q.battery ≡ batteries.Unknown
+  pub battery : q.battery ≡ None
   pub places : q.places ≡ fresh_port.places
 
 -- the answers to a read

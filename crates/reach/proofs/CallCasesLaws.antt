@@ -1,5 +1,5 @@
 -- Document 01, "Refusal numbers", "Writing", "Taking a HID++ report" and "Taking a DJ report": the cases of a call are complete, and exclude each other.
-use Rattle.std.specs.Prelude.{ℕ, ◌<◌, ◌≡◌, ◌↔◌, Bool, false, cond, not, ◌&&◌, List, length, leb, eqb}
+use Rattle.std.specs.Prelude.{ℕ, ◌<◌, ◌≡◌, ◌↔◌, Bool, false, cond, not, ◌&&◌, List, length, leb, eqb, Option, Some, None}
 use Rattle.std.proofs.Math.Path.{refl, ap, subst}
 use Rattle.std.proofs.Common.{sym, ◌∙◌, arith}
 use Rattle.std.proofs.Math.Bool.{true, true≢false}
@@ -13,8 +13,6 @@ use Rattle.report.specs.Reading.{Report, Read, goes_down, report_from, read_rule
 use Rattle.frame.specs.Writing as writing
 use Rattle.port.specs.declared.Port.{Port}
 use Rattle.port.specs.declared.Request.{Request}
-use Rattle.port.specs.declared.Serial.{Serial}
-use Rattle.port.specs.declared.Serial.TheVariants.{Unknown, Known}
 use Rattle.port.specs.Records.{place_count, empty_place, made_fresh, request_in, with_pairing, with_serial}
 use Rattle.port.specs.Places.{is_empty, matches, first_at, count_waiting}
 use Rattle.port.proofs.SearchingLaws.{found_passes}
@@ -347,7 +345,7 @@ none_given p r bytes n = go (given_by p r bytes) refl
 
 -- a serial at its device's port has a case, and no other
 module _ (p : Port) (number : ℕ) where
-  same_again : p.serial ≡ Known number → with_serial p (Known number) ≡ p
+  same_again : p.serial ≡ Some number → with_serial p (Some number) ≡ p
   unfolding with_serial
   same_again e = ap (with_serial p) (sym e)
 
@@ -357,13 +355,13 @@ module _ (p : Port) (number : ℕ) where
       by_case (SerialCase p number) (not p.paired) (λ e. keeps_none (not-true p.paired e))
       (λ e. known (not-false p.paired e) p.serial refl)
     where
-      known : p.paired ≡ true → (s : Serial) → p.serial ≡ s → SerialCase p number (cond (is_another s number) (record { dropped = count_waiting p.places; port = with_serial (with_pairing (made_fresh p) p.wpid p.reports) (Known number) }) (record { dropped = 0; port = with_serial p (Known number) }))
-      known h Unknown q = first_serial h q
-      known h (Known before) q =
+      known : p.paired ≡ true → (s : Option ℕ) → p.serial ≡ s → SerialCase p number (cond (is_another s number) (record { dropped = count_waiting p.places; port = with_serial (with_pairing (made_fresh p) p.wpid p.reports) (Some number) }) (record { dropped = 0; port = with_serial p (Some number) }))
+      known h None q = first_serial h q
+      known h (Some before) q =
           by_case (SerialCase p number) (not (eqb before number))
           (λ z. other_serial before h q (eqb-false before number (not-true _ z)))
           (λ z. let is : before ≡ number = eqb-true before number (not-false _ z) in
-          let at : p.serial ≡ Known number = q ∙ ap Known is in
+          let at : p.serial ≡ Some number = q ∙ ap Some is in
           subst (λ (x : Port). SerialCase p number (record { dropped = 0; port = x })) (sym (same_again at)) (same_serial h at))
 
   serial_only : {x : SerialResult} → SerialCase p number x → serial_rule p number ≡ x

@@ -1,5 +1,5 @@
 -- Demand 2, in its own words: it holds on every station that calls reach, by the cases of a take.
-use Rattle.std.specs.Prelude.{ℕ, ◌≡◌, ◌↔◌, Bool, ◌&&◌, ◌||◌, length, eqb}
+use Rattle.std.specs.Prelude.{ℕ, ◌≡◌, ◌↔◌, Bool, ◌&&◌, ◌||◌, length, eqb, Option, Some, None}
 use Rattle.std.proofs.Math.Path.{refl, ap, subst}
 use Rattle.std.proofs.Common.{sym, ◌∙◌, true≢false, arith}
 use Rattle.std.proofs.Math.Bool.{true, false, cond, not}
@@ -14,8 +14,6 @@ use Rattle.report.specs.Reading as reading
 use Rattle.report.specs.Reading.{Report, Read, report_from, read_rule}
 use Rattle.port.specs.declared.Port.{Port}
 use Rattle.port.specs.declared.Request.{Request}
-use Rattle.port.specs.declared.Serial.{Serial}
-use Rattle.port.specs.declared.Serial.TheVariants.{Unknown, Known}
 use Rattle.port.specs.Records.{empty_place, fresh_port, made_fresh, request_in, with_places, with_pairing, with_serial, with_link, with_reports}
 use Rattle.port.specs.Places.{is_empty, matches, count_waiting}
 use Rattle.port.specs.Waiting.{ended_at}
@@ -197,13 +195,13 @@ serial_places p number s i = go p.paired (is_another p.serial number)
     kept : Bool → Bool → SerialResult
     kept a b =
         cond (not a) (record { dropped = 0; port = p })
-        (cond b (record { dropped = count_waiting p.places; port = with_serial (with_pairing (made_fresh p) p.wpid p.reports) (Known number) }) (record { dropped = 0; port = with_serial p (Known number) }))
+        (cond b (record { dropped = count_waiting p.places; port = with_serial (with_pairing (made_fresh p) p.wpid p.reports) (Some number) }) (record { dropped = 0; port = with_serial p (Some number) }))
 
     go : (a b : Bool) → request_in (kept a b).port.places i ≡ cond ((a && b) && not (is_empty (request_in p.places i))) empty_place (request_in p.places i)
     go false b = refl
     go true false = refl
     go true true =
-        fresh_empty 0 p (with_serial (with_pairing (made_fresh p) p.wpid p.reports) (Known number)) refl i ∙ emptied (is_empty (request_in p.places i)) refl
+        fresh_empty 0 p (with_serial (with_pairing (made_fresh p) p.wpid p.reports) (Some number)) refl i ∙ emptied (is_empty (request_in p.places i)) refl
 
 -- at its own port no report has a drop count of a reply
 hidpp_drops : {p : Port} {m : Message} {r : Result} → HidppCase p m r → taken_drops r.answer ≡ 0
@@ -311,9 +309,9 @@ module _ (st : Station) (k : Reached st) (bytes : List ℕ) where
   unfolding report_from
   swapped n = (to given refl, from)
     where
-      other : (s : Serial) (number : ℕ) → is_another s number ≡ true → (known : ℕ) × ((s ≡ Known known) × (¬ (known ≡ number)))
-      other Unknown number e = absurd (false≢true e)
-      other (Known known) number e = (known, (refl, eqb-false known number (not-true (eqb known number) e)))
+      other : (s : Option ℕ) (number : ℕ) → is_another s number ≡ true → (known : ℕ) × ((s ≡ Some known) × (¬ (known ≡ number)))
+      other None number e = absurd (false≢true e)
+      other (Some known) number e = (known, (refl, eqb-false known number (not-true (eqb known number) e)))
 
       to : (g : Given) → given ≡ g → swaps n (view n st) g ≡ true → Swaps st bytes n
       to no_serial q e = absurd (false≢true e)

@@ -1,10 +1,9 @@
 -- Demand 2: the fields that documents 01 and 02 list for a call, one answer for each row. A field beyond these would let more change.
-use Rattle.std.specs.Prelude.{ℕ, ◌≡◌, refl, Bool, true, false, List, [], ◌∷◌}
+use Rattle.std.specs.Prelude.{ℕ, ◌≡◌, refl, Bool, true, false, List, [], ◌∷◌, Some}
 use Rattle.report.specs.declared.FeatureIndex.{FeatureIndex}
 use Rattle.report.specs.Reading.{report_from}
 use Rattle.port.specs.declared.Port.{Port}
 use Rattle.port.specs.declared.Request.{Request}
-use Rattle.port.specs.declared.Serial.TheVariants.{Known}
 use Rattle.port.specs.Records.{fresh_port, empty_place, with_pairing, with_serial, with_features, with_places}
 use Rattle.port.specs.Places.{first_at}
 use Rattle.port.specs.Waiting as waiting
@@ -66,8 +65,8 @@ told p first =
 
 record Listed : Type 0 where
   first_serial_example : told port2 0x31 ≡ false ∷ false ∷ false ∷ false ∷ false ∷ false ∷ false ∷ true ∷ false ∷ []
-  same_serial_example : told (with_serial port2 (Known 0x01020304)) 0x31 ≡ false ∷ false ∷ false ∷ false ∷ false ∷ false ∷ false ∷ true ∷ false ∷ []
-  another_serial : told (with_serial port2 (Known 0x04030201)) 0x31 ≡ false ∷ false ∷ false ∷ true ∷ true ∷ true ∷ true ∷ true ∷ true ∷ []
+  same_serial_example : told (with_serial port2 (Some 0x01020304)) 0x31 ≡ false ∷ false ∷ false ∷ false ∷ false ∷ false ∷ false ∷ true ∷ false ∷ []
+  another_serial : told (with_serial port2 (Some 0x04030201)) 0x31 ≡ false ∷ false ∷ false ∷ true ∷ true ∷ true ∷ true ∷ true ∷ true ∷ []
   unpaired_serial : told fresh_port 0x31 ≡ no
   another_parameter : told port2 0x30 ≡ no
   ping : from2 (reply 0 (bytes23 0 0x11)) ≡ false ∷ false ∷ false ∷ false ∷ true ∷ false ∷ false ∷ false ∷ true ∷ []

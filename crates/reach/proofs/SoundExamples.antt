@@ -1,12 +1,11 @@
 -- Document 01, "Ports and their records", "Refusal numbers" and "Writing": what the invariant says, read off in plain cases.
-use Rattle.std.specs.Prelude.{ℕ, ◌≤◌, ◌<◌, ◌≡◌, Bool, true, false, not, ◌&&◌, length, eqb}
+use Rattle.std.specs.Prelude.{ℕ, ◌≤◌, ◌<◌, ◌≡◌, Bool, true, false, not, ◌&&◌, length, eqb, None}
 use Rattle.std.proofs.Math.Path.{refl}
 use Rattle.std.proofs.Common.{sym, ◌∙◌, ap, lit<, eqb-true}
 use Rattle.std.proofs.lemmas.Bool.{false≢true, not-true}
 use Rattle.report.proofs.ChoicesLaws.{both}
 use Rattle.frame.specs.Forbidden.{is_askable}
 use Rattle.port.specs.declared.Request.{Request}
-use Rattle.port.specs.declared.Serial.TheVariants.{Unknown}
 use Rattle.port.specs.Records.{empty_place, request_in, feature_at}
 use Rattle.port.specs.Places.{is_empty, matches}
 use Rattle.station.specs.declared.Station.{Station}
@@ -20,7 +19,7 @@ module _ (st : Station) (k : Reached st) where
   receiver_unpaired = (k.each 6 (lit< tt)).receiver refl
 
   -- no serial is known of a device that is not paired
-  no_serial_unpaired : (port_for st 2).paired ≡ false → (port_for st 2).serial ≡ Unknown
+  no_serial_unpaired : (port_for st 2).paired ≡ false → (port_for st 2).serial ≡ None
   unfolding position_of
   no_serial_unpaired = (k.each 1 (lit< tt)).unpaired
 

@@ -1,5 +1,5 @@
 -- Document 01, "Ports and their records": what is sound in a port's record stays so by each change of it.
-use Rattle.std.specs.Prelude.{ℕ, ◌-◌, ◌≤◌, ◌≡◌, Bool, true, false, not, ◌&&◌, List, map, set, ltb, eqb}
+use Rattle.std.specs.Prelude.{ℕ, ◌-◌, ◌≤◌, ◌≡◌, Bool, true, false, not, ◌&&◌, List, map, set, ltb, eqb, Option}
 use Rattle.std.proofs.Math.Path.{refl}
 use Rattle.std.proofs.Common.{sym, ◌∙◌, subst, true≢false, arith, length-set, get_or-set_other, lit≤, leb-true, eqb-true}
 use Rattle.std.proofs.lemmas.Bool.{false≢true, eqb-false}
@@ -10,7 +10,6 @@ use Rattle.report.proofs.ChoicesLaws.{by_case, both}
 use Rattle.report.specs.declared.FeatureIndex.{FeatureIndex}
 use Rattle.port.specs.declared.Port.{Port}
 use Rattle.port.specs.declared.Request.{Request}
-use Rattle.port.specs.declared.Serial.{Serial}
 use Rattle.port.specs.Records.{place_count, feature_count, max_index, empty_place, fresh_port, battery_status, wireless_status, slot_of, request_in, with_version, with_battery, with_features, with_link}
 use Rattle.port.specs.Places.{is_empty, matches}
 use Rattle.port.specs.Ticks.{after_tick}
@@ -119,7 +118,7 @@ sound_found {features} s slot index =
     }
 
 -- what a report changes in the records: the pairing, the serial and the places stay, and the indexes stay sound
-pub record Recorded (paired : Bool) (known : Serial) (features : List FeatureIndex) (before : List Request) (paired' : Bool) (known' : Serial) (features' : List FeatureIndex) (after : List Request) : Type 0 where
+pub record Recorded (paired : Bool) (known : Option ℕ) (features : List FeatureIndex) (before : List Request) (paired' : Bool) (known' : Option ℕ) (features' : List FeatureIndex) (after : List Request) : Type 0 where
   pub pairing : paired' ≡ paired
   pub serial : known' ≡ known
   pub indexes : SoundFeatures features → SoundFeatures features'
@@ -129,7 +128,7 @@ abbrev pub Records : Port → Port → Type 0
 Records p q =
     Recorded p.paired p.serial p.features p.places q.paired q.serial q.features q.places
 
-pub same : {paired : Bool} {serial : Serial} {features : List FeatureIndex} {places : List Request} → Recorded paired serial features places paired serial features places
+pub same : {paired : Bool} {serial : Option ℕ} {features : List FeatureIndex} {places : List Request} → Recorded paired serial features places paired serial features places
 same = record { pairing = refl; serial = refl; indexes = λ s. s; places = refl }
 
 module _ (p : Port) (m : Message) where

@@ -1,5 +1,5 @@
 -- Document 01, "Refusal numbers", "Writing", "Taking a HID++ report" and "Taking a DJ report", and document 02, Asks 1 to 3 and 5: which case a call falls into, and its whole outcome. Each case says all that it asks for, and so what the points before it left.
-use Rattle.std.specs.Prelude.{ℕ, ◌≤◌, ◌<◌, ◌≡◌, ◌↔◌, true, false, List, length}
+use Rattle.std.specs.Prelude.{ℕ, ◌≤◌, ◌<◌, ◌≡◌, ◌↔◌, true, false, List, length, Some, None}
 use Rattle.report.specs.Refusals.{no_such_port, not_paired, not_declared, dirty_padding, forbidden, no_room, already_waiting, places_full, not_waiting, other_edition, broken_line}
 use Rattle.report.specs.Ports.{is_port}
 use Rattle.report.specs.Sizes.{software_id}
@@ -7,7 +7,6 @@ use Rattle.report.specs.Reading as reading
 use Rattle.report.specs.Reading.{Report, read_rule}
 use Rattle.frame.specs.Writing as writing
 use Rattle.port.specs.declared.Port.{Port}
-use Rattle.port.specs.declared.Serial.TheVariants.{Unknown, Known}
 use Rattle.port.specs.Records.{place_count, made_fresh, request_in, with_pairing, with_serial, with_link, with_reports}
 use Rattle.port.specs.Places.{is_empty, matches, first_at, count_waiting}
 use Rattle.port.specs.Waiting as waiting
@@ -116,12 +115,12 @@ pub data SerialCase (p : Port) (number : ℕ) : SerialResult → Type 0 where
   -- a device that is not paired
   keeps_none : p.paired ≡ false → SerialCase p number (record { dropped = 0; port = p })
   -- the first that is known, and the same again
-  first_serial : p.paired ≡ true → p.serial ≡ Unknown → SerialCase p number (record { dropped = 0; port = with_serial p (Known number) })
-  same_serial : p.paired ≡ true → p.serial ≡ Known number → SerialCase p number (record { dropped = 0; port = p })
+  first_serial : p.paired ≡ true → p.serial ≡ None → SerialCase p number (record { dropped = 0; port = with_serial p (Some number) })
+  same_serial : p.paired ≡ true → p.serial ≡ Some number → SerialCase p number (record { dropped = 0; port = p })
   -- a different one
-  other_serial : (known : ℕ) → p.paired ≡ true → p.serial ≡ Known known → ¬ (known ≡ number) → SerialCase p number (record {
+  other_serial : (known : ℕ) → p.paired ≡ true → p.serial ≡ Some known → ¬ (known ≡ number) → SerialCase p number (record {
     dropped = count_waiting p.places;
-    port = with_serial (with_pairing (made_fresh p) p.wpid p.reports) (Known number);
+    port = with_serial (with_pairing (made_fresh p) p.wpid p.reports) (Some number);
   })
 
 -- a DJ report at its port

@@ -1,12 +1,11 @@
 -- Demand 2, in its own words, with document 02, Asks 1 and 2: which request a report that is taken completes, and which requests a DJ report, or another serial, drops.
-use Rattle.std.specs.Prelude.{ℕ, ◌≡◌, ◌↔◌, Bool, true, false, cond, not, ◌&&◌, ◌||◌, List, eqb}
+use Rattle.std.specs.Prelude.{ℕ, ◌≡◌, ◌↔◌, Bool, true, false, cond, not, ◌&&◌, ◌||◌, List, eqb, Some}
 use Rattle.report.specs.Ports.{is_port}
 use Rattle.report.specs.Sizes.{byte, hidpp_start, function, is_feature}
 use Rattle.report.specs.Reading as reading
 use Rattle.report.specs.Reading.{Read, report_from, read_rule}
 use Rattle.port.specs.declared.Port.{Port}
 use Rattle.port.specs.declared.Request.{Request}
-use Rattle.port.specs.declared.Serial.TheVariants.{Known}
 use Rattle.port.specs.Records.{empty_place, request_in}
 use Rattle.port.specs.Places.{is_empty, matches}
 use Rattle.port.specs.Answers.{Answer, refused, reply, stray, plain, event, failed, radio, notice}
@@ -106,7 +105,7 @@ pub record Swaps (st : Station) (bytes : List ℕ) (n : ℕ) : Type 0 where
   pub number : ℕ
   pub given : Gives (port_for st 255) (report_from hidpp_start bytes) bytes n number
   pub paired : (port_for st n).paired ≡ true
-  pub before : (port_for st n).serial ≡ Known known
+  pub before : (port_for st n).serial ≡ Some known
   pub differs : ¬ (known ≡ number)
 
 -- at its device's port a serial does what its case says, and the answer has the number of requests that it drops

@@ -1,11 +1,9 @@
 -- Document 01, "Ports and their records", "Refusal numbers" (5, 9 and 11) and "Writing", and document 02, Ask 1: what holds on every station that calls reach.
-use Rattle.std.specs.Prelude.{ℕ, ◌≤◌, ◌<◌, ◌≡◌, Bool, true, false, List, length}
+use Rattle.std.specs.Prelude.{ℕ, ◌≤◌, ◌<◌, ◌≡◌, Bool, true, false, List, length, Option, None}
 use Rattle.report.specs.declared.FeatureIndex.{FeatureIndex}
 use Rattle.frame.specs.Forbidden.{is_askable}
 use Rattle.port.specs.declared.Port.{Port}
 use Rattle.port.specs.declared.Request.{Request}
-use Rattle.port.specs.declared.Serial.{Serial}
-use Rattle.port.specs.declared.Serial.TheVariants.{Unknown}
 use Rattle.port.specs.Records.{place_count, feature_count, max_index, empty_place, request_in, feature_at}
 use Rattle.port.specs.Places.{is_empty, matches}
 use Rattle.request.specs.Requesting.{max_ticks}
@@ -34,9 +32,9 @@ pub record SoundFeatures (features : List FeatureIndex) : Type 0 where
   pub each : (slot : ℕ) → feature_at features slot ≤ max_index
 
 -- what the port at a position holds; port 255 is not paired, and no serial is known of what is not paired
-pub record SoundRecord (position : ℕ) (paired : Bool) (serial : Serial) (features : List FeatureIndex) (places : List Request) : Type 0 where
+pub record SoundRecord (position : ℕ) (paired : Bool) (serial : Option ℕ) (features : List FeatureIndex) (places : List Request) : Type 0 where
   pub receiver : position ≡ receiver_position → paired ≡ false
-  pub unpaired : paired ≡ false → serial ≡ Unknown
+  pub unpaired : paired ≡ false → serial ≡ None
   pub indexes : SoundFeatures features
   pub waiting : SoundPlaces places
 

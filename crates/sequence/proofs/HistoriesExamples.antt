@@ -4,15 +4,15 @@ use Rattle.report.specs.declared.Device.{Device}
 use Rattle.report.specs.declared.FeatureIndex.{FeatureIndex}
 use Rattle.report.specs.declared.Refusal.TheVariants.{EmptyReport}
 use Rattle.report.specs.Reading.{read_rule}
-use Rattle.frame.specs.declared.Written.{Written}
+use Rattle.frame.specs.FrameContracts.{Written}
 use Rattle.frame.specs.FrameContracts.{written_outcome}
 use Rattle.port.specs.declared.answer.Taken.TheVariants.{Refused}
 use Rattle.station.specs.declared.Station.{Station}
-use Rattle.station.specs.declared.TakeResult.{TakeResult}
-use Rattle.station.specs.declared.RequestResult.{RequestResult}
-use Rattle.station.specs.declared.CancelResult.{CancelResult}
-use Rattle.station.specs.declared.TickResult.{TickResult}
-use Rattle.station.specs.declared.RestoreResult.{RestoreResult}
+use Rattle.station.specs.StationContracts.{TakeResult}
+use Rattle.station.specs.StationContracts.{RequestResult}
+use Rattle.station.specs.StationContracts.{CancelResult}
+use Rattle.station.specs.StationContracts.{TickResult}
+use Rattle.station.specs.StationContracts.{RestoreResult}
 use Rattle.station.specs.Stations.{fresh_station}
 use Rattle.station.specs.StationTaking.{take_by, take_rule}
 use Rattle.station.specs.StationContracts.{take_outcome, request_outcome, cancel_outcome, tick_outcome, restore_outcome}

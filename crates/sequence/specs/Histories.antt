@@ -3,14 +3,14 @@ use Rattle.std.specs.Prelude.{ℕ, ◌≡◌, List, [], ◌∷◌, map}
 use Rattle.std.specs.Borrow.{Bor, MutBor}
 use Rattle.report.specs.declared.Device.{Device}
 use Rattle.report.specs.declared.FeatureIndex.{FeatureIndex}
-use Rattle.frame.specs.declared.Written.{Written}
+use Rattle.frame.specs.FrameContracts.{Written}
 use Rattle.frame.specs.FrameContracts.{written_outcome}
 use Rattle.station.specs.declared.Station.{Station}
-use Rattle.station.specs.declared.TakeResult.{TakeResult}
-use Rattle.station.specs.declared.RequestResult.{RequestResult}
-use Rattle.station.specs.declared.CancelResult.{CancelResult}
-use Rattle.station.specs.declared.TickResult.{TickResult}
-use Rattle.station.specs.declared.RestoreResult.{RestoreResult}
+use Rattle.station.specs.StationContracts.{TakeResult}
+use Rattle.station.specs.StationContracts.{RequestResult}
+use Rattle.station.specs.StationContracts.{CancelResult}
+use Rattle.station.specs.StationContracts.{TickResult}
+use Rattle.station.specs.StationContracts.{RestoreResult}
 use Rattle.station.specs.StationContracts.{take_outcome, request_outcome, cancel_outcome, tick_outcome, restore_outcome}
 use Rattle.station.proofs.Station.take.Reads as take_reads
 use Rattle.station.proofs.Station.request.Reads as request_reads

@@ -1,16 +1,16 @@
 -- What each call of the program promises: its outcome is the one that the rules give.
 use Rattle.std.specs.Prelude.{ℕ, ◌≡◌, List}
-use Rattle.frame.specs.declared.Written.{Written}
+use Rattle.frame.specs.FrameContracts.{Written}
 use Rattle.frame.specs.Writing.{switch_rule, get_paired_rule, led_rule}
 use Rattle.frame.specs.FrameContracts.{written_outcome}
 use Rattle.listing.specs.Listing.{listing_rule}
 use Rattle.store.specs.Stores.{store_rule}
 use Rattle.station.specs.declared.Station.{Station}
-use Rattle.station.specs.declared.TakeResult.{TakeResult}
-use Rattle.station.specs.declared.RequestResult.{RequestResult}
-use Rattle.station.specs.declared.CancelResult.{CancelResult}
-use Rattle.station.specs.declared.TickResult.{TickResult}
-use Rattle.station.specs.declared.RestoreResult.{RestoreResult}
+use Rattle.station.specs.StationContracts.{TakeResult}
+use Rattle.station.specs.StationContracts.{RequestResult}
+use Rattle.station.specs.StationContracts.{CancelResult}
+use Rattle.station.specs.StationContracts.{TickResult}
+use Rattle.station.specs.StationContracts.{RestoreResult}
 use Rattle.station.specs.StationTaking.{take_rule}
 use Rattle.station.specs.StationCalls.{request_rule, cancel_rule, tick_all, restore_rule}
 use Rattle.station.specs.StationContracts.{take_outcome, request_outcome, cancel_outcome, tick_outcome, restore_outcome}

@@ -1,10 +1,7 @@
 -- Document 01, "Ports and their records": seven ports.
-use Rattle.std.specs.Prelude.{ℕ, suc, ◌+◌, ◌-◌, cond, false, [], get_or, set, replicate, ltb}
+use Rattle.std.specs.Prelude.{ℕ, suc, ◌+◌, ◌-◌, cond, false, [], get_or, set, replicate, ltb, None}
 use Rattle.report.specs.Ports.{device_count, receiver, is_device}
 use Rattle.port.specs.declared.Port.{Port}
-use Rattle.port.specs.declared.Version.TheVariants as versions
-use Rattle.port.specs.declared.Battery.TheVariants as batteries
-use Rattle.port.specs.declared.Serial.TheVariants as serials
 use Rattle.port.specs.Records.{fresh_port}
 use Rattle.station.specs.declared.Station.{Station}
 
@@ -34,10 +31,10 @@ no_port =
       wpid = 0;
       reports = 0;
       up = false;
-      version = versions.Unknown;
+      version = None;
       features = [];
-      battery = batteries.Unknown;
-      serial = serials.Unknown;
+      battery = None;
+      serial = None;
       places = [];
     }
 

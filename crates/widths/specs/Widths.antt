@@ -1,9 +1,8 @@
 -- Document 01, "Ports and their records", and document 02, Ask 3: the numbers of a port are as wide as their fields: WPID 16 bits, bitfield and serial 32, each part of a version a byte. So the store of every station that calls reach is read back.
-use Rattle.std.specs.Prelude.{ℕ, ◌^◌, ◌<◌, ◌≡◌, List, [], ◌∷◌, map}
+use Rattle.std.specs.Prelude.{ℕ, ◌^◌, ◌<◌, ◌≡◌, List, [], ◌∷◌, map, Option}
 use Rattle.report.specs.Sizes.{byte}
 use Rattle.port.specs.declared.Port.{Port}
 use Rattle.port.specs.declared.Version.{Version}
-use Rattle.port.specs.declared.Serial.{Serial}
 use Rattle.text.specs.Texts.{digits16, digits32}
 use Rattle.scan.specs.Exact.{SerialFits, VersionFits}
 use Rattle.store.specs.Stores.{store_text, stored_of}
@@ -22,7 +21,7 @@ unfoldable pub AllRead : List Call → Type 0
 AllRead [] = Unit
 AllRead (c ∷ cs) = ReadsBytes c × AllRead cs
 
-pub record WideRecord (wpid : ℕ) (serial : Serial) (reports : ℕ) (version : Version) : Type 0 where
+pub record WideRecord (wpid : ℕ) (serial : Option ℕ) (reports : ℕ) (version : Option Version) : Type 0 where
   pub model : wpid < 16 ^ digits16
   pub told : SerialFits serial
   pub types : reports < 16 ^ digits32

@@ -1,6 +1,6 @@
 -- Laws of the calls that make a device known: what each does to a station on whose ports no request waits.
 use Prim.Native.Nat.{ℕ, ◌/◌, ◌%◌, ◌≤◌, ◌<◌}
-use Rattle.std.specs.Prelude.{◌≡◌, Bool, true, not, ◌&&◌, leb, ltb, length, set, replicate}
+use Rattle.std.specs.Prelude.{◌≡◌, Bool, true, not, ◌&&◌, leb, ltb, length, set, replicate, Option, Some, None}
 use Rattle.std.proofs.Math.Path.{refl, ap}
 use Rattle.std.proofs.Common.{sym, ◌∙◌, subst, arith, length-set, set-set}
 use Rattle.std.proofs.Math.Bool.{false, cond}
@@ -19,9 +19,6 @@ use Rattle.frame.specs.Writing as writing
 use Rattle.port.specs.declared.Port.{Port}
 use Rattle.port.specs.declared.Request.{Request}
 use Rattle.port.specs.declared.Version.{Version}
-use Rattle.port.specs.declared.Version.TheVariants as versions
-use Rattle.port.specs.declared.Serial.{Serial}
-use Rattle.port.specs.declared.Serial.TheVariants as serials
 use Rattle.port.specs.Records.{feature_count, empty_place, fresh_port, made_fresh, with_pairing, with_version, with_features, with_serial, with_places, slot_of, feature_set, device_information, device_name, battery_status, wireless_status, known_features}
 use Rattle.port.specs.Places.{first_at, sum_over}
 use Rattle.port.specs.Waiting.{room_for, ended_at}
@@ -60,17 +57,17 @@ abbrev pub no_indexes : List FeatureIndex
 no_indexes = replicate feature_count (record { 0 = 0 })
 
 -- a device that no request waits for, asked and answered at its port
-module _ (n wpid : ℕ) (serial : Serial) (reports : ℕ) where
-  ping_waits_law : (features : List FeatureIndex) → (request_at (pad_port wpid serial reports versions.Unknown features) n 0 0x11 1 (0 ∷ 0 ∷ 0 ∷ []) 0 short_buffer).port ≡ with_waiting (pad_port wpid serial reports versions.Unknown features) 0 (waiting_request 0 0x11 1 (0 ∷ 0 ∷ 0 ∷ []))
+module _ (n wpid : ℕ) (serial : Option ℕ) (reports : ℕ) where
+  ping_waits_law : (features : List FeatureIndex) → (request_at (pad_port wpid serial reports None features) n 0 0x11 1 (0 ∷ 0 ∷ 0 ∷ []) 0 short_buffer).port ≡ with_waiting (pad_port wpid serial reports None features) 0 (waiting_request 0 0x11 1 (0 ∷ 0 ∷ 0 ∷ []))
   unfolding request_at is_forbidden_frame request_by room_for first_at sum_over empty_place pad_port
   ping_waits_law features = refl
 
-  ping_answered : (features : List FeatureIndex) (major minor : ℕ) → (take_hidpp (with_waiting (pad_port wpid serial reports versions.Unknown features) 0 (waiting_request 0 0x11 1 (0 ∷ 0 ∷ 0 ∷ []))) (message_of (report_from hidpp_start (hidpp_short ∷ n ∷ 0 ∷ 0x11 ∷ major ∷ minor ∷ 0 ∷ [])) (hidpp_short ∷ n ∷ 0 ∷ 0x11 ∷ major ∷ minor ∷ 0 ∷ []))).port ≡ pad_port wpid serial reports (versions.Known major minor) features
+  ping_answered : (features : List FeatureIndex) (major minor : ℕ) → (take_hidpp (with_waiting (pad_port wpid serial reports None features) 0 (waiting_request 0 0x11 1 (0 ∷ 0 ∷ 0 ∷ []))) (message_of (report_from hidpp_start (hidpp_short ∷ n ∷ 0 ∷ 0x11 ∷ major ∷ minor ∷ 0 ∷ [])) (hidpp_short ∷ n ∷ 0 ∷ 0x11 ∷ major ∷ minor ∷ 0 ∷ []))).port ≡ pad_port wpid serial reports (Some (record { major = major; minor = minor })) features
   unfolding take_hidpp reply_rule after_reply ended_at message_of report_from first_at empty_place pad_port waiting_request with_places with_version
   ping_answered features major minor = refl
 
   -- GetFeature
-  module _ (version : Version) (features : List FeatureIndex) (feature : ℕ) where
+  module _ (version : Option Version) (features : List FeatureIndex) (feature : ℕ) where
     abbrev asking : Request
     asking = waiting_request 0 0x01 1 (feature / 256 ∷ feature % 256 ∷ 0 ∷ [])
 
@@ -128,7 +125,7 @@ module _ (n serial : ℕ) where
         serial = omega arith;
       })
 
-  serial_kept : (wpid reports : ℕ) (version : Version) (features : List FeatureIndex) → (serial_rule (pad_port wpid serials.Unknown reports version features) serial).port ≡ pad_port wpid (serials.Known serial) reports version features
+  serial_kept : (wpid reports : ℕ) (version : Option Version) (features : List FeatureIndex) → (serial_rule (pad_port wpid None reports version features) serial).port ≡ pad_port wpid (Some serial) reports version features
   unfolding serial_rule pad_port with_serial
   serial_kept wpid reports version features = refl
 
@@ -165,13 +162,13 @@ module _ (base : Station) (n : ℕ) (named : is_device n ≡ true) (seven : leng
   read_pairing wpid reports =
       ap (λ (b : Bool). cond (not b) (reading.refused no_such_port) (reading.dj (report_from dj_start (paired_report n wpid reports)))) named
 
-  pub paired : (wpid reports : ℕ) → run (with_device fresh_port) (take (paired_report n wpid reports) ∷ []) ≡ with_device (pad_port wpid serials.Unknown reports versions.Unknown no_indexes)
+  pub paired : (wpid reports : ℕ) → run (with_device fresh_port) (take (paired_report n wpid reports) ∷ []) ≡ with_device (pad_port wpid None reports None no_indexes)
   unfolding run step take_rule take_by take_dj paired_rule report_from made_fresh with_pairing fresh_port pad_port
   paired wpid reports =
       ap (λ (r : reading.Read). (take_by r (paired_report n wpid reports) (with_device fresh_port)).station) (read_pairing wpid reports)
       ∙ ap (λ (p : Port). with_port (with_device fresh_port) (position_of n) (take_dj p (report_from dj_start (paired_report n wpid reports)) (paired_report n wpid reports)).port) (at_device fresh_port)
-      ∙ again fresh_port (pad_port (joined2 (wpid % 256) (wpid / 256)) serials.Unknown (joined4 (reports % 256) (reports / 256 % 256) (reports / 256 / 256 % 256) (reports / 256 / 256 / 256)) versions.Unknown no_indexes)
-      ∙ (λ i. with_device (pad_port (two_bytes wpid i) serials.Unknown (four_bytes reports i) versions.Unknown no_indexes))
+      ∙ again fresh_port (pad_port (joined2 (wpid % 256) (wpid / 256)) None (joined4 (reports % 256) (reports / 256 % 256) (reports / 256 / 256 % 256) (reports / 256 / 256 / 256)) None no_indexes)
+      ∙ (λ i. with_device (pad_port (two_bytes wpid i) None (four_bytes reports i) None no_indexes))
 
   -- a request at its port, where none waits
   asked : (p q : Port) (byte2 byte3 p0 p1 p2 : ℕ) → (request_at p n byte2 byte3 1 (p0 ∷ p1 ∷ p2 ∷ []) 0 short_buffer).port ≡ q → run (with_device p) (asks n byte2 byte3 p0 p1 p2 ∷ []) ≡ with_device q
@@ -212,19 +209,19 @@ module _ (base : Station) (n : ℕ) (named : is_device n ≡ true) (seven : leng
         ∙ ap (with_port st (position_of n)) e
         ∙ again p q
 
-  module _ (wpid : ℕ) (serial : Serial) (reports : ℕ) where
+  module _ (wpid : ℕ) (serial : Option ℕ) (reports : ℕ) where
     -- its version is told
-    pub version_told : (version : Version) (features : List FeatureIndex) → run (with_device (pad_port wpid serial reports versions.Unknown features)) (version_calls n version) ≡ with_device (pad_port wpid serial reports version features)
+    pub version_told : (version : Option Version) (features : List FeatureIndex) → run (with_device (pad_port wpid serial reports None features)) (version_calls n version) ≡ with_device (pad_port wpid serial reports version features)
     unfolding run
-    version_told versions.Unknown features = refl
-    version_told (versions.Known major minor) features =
-        let p : Port = pad_port wpid serial reports versions.Unknown features in
+    version_told None features = refl
+    version_told (Some version) features =
+        let p : Port = pad_port wpid serial reports None features in
         let q : Port = with_waiting p 0 (waiting_request 0 0x11 1 (0 ∷ 0 ∷ 0 ∷ [])) in
-        ap (λ (st : Station). run st (replies n 0 0x11 major minor 0 ∷ [])) (asked p q 0 0x11 0 0 0 (ping_waits_law n wpid serial reports features))
-        ∙ replied 0x11 major minor 0 q (pad_port wpid serial reports (versions.Known major minor) features) (ping_answered n wpid serial reports features major minor)
+        ap (λ (st : Station). run st (replies n 0 0x11 version.major version.minor 0 ∷ [])) (asked p q 0 0x11 0 0 0 (ping_waits_law n wpid serial reports features))
+        ∙ replied 0x11 version.major version.minor 0 q (pad_port wpid serial reports (Some version) features) (ping_answered n wpid serial reports features version.major version.minor)
 
     -- an index is told
-    pub index_told : (version : Version) (features : List FeatureIndex) (feature index : ℕ) → index ≤ 63 → eqb (feature / 256) 0 && eqb (feature % 256) 0 ≡ false → ltb (slot_of feature) feature_count ≡ true → run (with_device (pad_port wpid serial reports version features)) (index_calls n feature index) ≡ with_device (pad_port wpid serial reports version (set features (slot_of feature) (record { 0 = index })))
+    pub index_told : (version : Option Version) (features : List FeatureIndex) (feature index : ℕ) → index ≤ 63 → eqb (feature / 256) 0 && eqb (feature % 256) 0 ≡ false → ltb (slot_of feature) feature_count ≡ true → run (with_device (pad_port wpid serial reports version features)) (index_calls n feature index) ≡ with_device (pad_port wpid serial reports version (set features (slot_of feature) (record { 0 = index })))
     unfolding run
     index_told version features feature index small some known =
         let p : Port = pad_port wpid serial reports version features in
@@ -233,7 +230,7 @@ module _ (base : Station) (n : ℕ) (named : is_device n ≡ true) (seven : leng
         ∙ replied 0x01 index 0 0 q (pad_port wpid serial reports version (set features (slot_of feature) (record { 0 = index }))) (feature_answered n wpid serial reports version features feature index small known)
 
     -- all five are
-    pub indexes_told : (version : Version) (a b c d e : FeatureIndex) → IndexesFit (a ∷ b ∷ c ∷ d ∷ e ∷ []) → run (with_device (pad_port wpid serial reports version no_indexes)) (indexes_calls n known_features (a ∷ b ∷ c ∷ d ∷ e ∷ [])) ≡ with_device (pad_port wpid serial reports version (a ∷ b ∷ c ∷ d ∷ e ∷ []))
+    pub indexes_told : (version : Option Version) (a b c d e : FeatureIndex) → IndexesFit (a ∷ b ∷ c ∷ d ∷ e ∷ []) → run (with_device (pad_port wpid serial reports version no_indexes)) (indexes_calls n known_features (a ∷ b ∷ c ∷ d ∷ e ∷ [])) ≡ with_device (pad_port wpid serial reports version (a ∷ b ∷ c ∷ d ∷ e ∷ []))
     unfolding run indexes_calls IndexesFit
     indexes_told version a b c d e h =
         let none : FeatureIndex = record { 0 = 0 } in
@@ -288,11 +285,11 @@ module _ (base : Station) (n : ℕ) (named : is_device n ≡ true) (seven : leng
         ∙ again p (serial_rule p serial).port
 
   -- its serial is told
-  pub serial_told : (wpid reports : ℕ) (version : Version) (features : List FeatureIndex) (serial : Serial) → run (with_device (pad_port wpid serials.Unknown reports version features)) (serial_calls n serial) ≡ with_device (pad_port wpid serial reports version features)
+  pub serial_told : (wpid reports : ℕ) (version : Option Version) (features : List FeatureIndex) (serial : Option ℕ) → run (with_device (pad_port wpid None reports version features)) (serial_calls n serial) ≡ with_device (pad_port wpid serial reports version features)
   unfolding run
-  serial_told wpid reports version features serials.Unknown = refl
-  serial_told wpid reports version features (serials.Known serial) =
-      let p : Port = pad_port wpid serials.Unknown reports version features in
+  serial_told wpid reports version features None = refl
+  serial_told wpid reports version features (Some serial) =
+      let p : Port = pad_port wpid None reports version features in
       ap (λ (st : Station). run st (take (serial_answer n serial) ∷ [])) (asked_receiver_law p serial)
       ∙ told_receiver p serial
       ∙ ap with_device (serial_kept n serial wpid reports version features)

@@ -1,6 +1,6 @@
 -- Laws of the stations that calls reach: each that a store restores is one.
 use Prim.Native.Nat.{ℕ, zero, suc, ◌+◌, ◌/◌, ◌%◌, ◌≤◌, ◌<◌}
-use Rattle.std.specs.Prelude.{◌≡◌, Bool, true, false, cond, replicate}
+use Rattle.std.specs.Prelude.{◌≡◌, Bool, true, false, cond, replicate, Option, Some, None}
 use Rattle.std.proofs.Math.Path.{refl, sym, ap}
 use Rattle.std.proofs.Common.{◌∙◌, subst, length-append, le-leb}
 use mathlib.Core.List.{List, [], ◌∷◌, ◌++◌, append_assoc, append-nil}
@@ -15,9 +15,6 @@ use Rattle.report.specs.declared.FeatureIndex.{FeatureIndex}
 use Rattle.frame.specs.Writing.{WriteOutcome, refused, wrote, fits_at, pasted, frame_at}
 use Rattle.port.specs.declared.Port.{Port}
 use Rattle.port.specs.declared.Version.{Version}
-use Rattle.port.specs.declared.Version.TheVariants as versions
-use Rattle.port.specs.declared.Serial.{Serial}
-use Rattle.port.specs.declared.Serial.TheVariants as serials
 use Rattle.port.specs.Records.{feature_count, fresh_port, known_features}
 use Rattle.scan.specs.Exact.{SerialFits, VersionFits}
 use Rattle.serial.specs.Serials.{long_register, serial_register, parameter_for}
@@ -41,8 +38,8 @@ module _ (base : Station) (n : ℕ) (named : is_device n ≡ true) (seven : leng
   at p = with_device base n named seven idle p
 
   -- five indexes
-  all_indexes : (wpid reports : ℕ) (version : Version) (features : List FeatureIndex) → length features ≡ feature_count → IndexesFit features → run (at (pad_port wpid serials.Unknown reports version no_indexes)) (indexes_calls n known_features features) ≡ at (pad_port wpid serials.Unknown reports version features)
-  all_indexes wpid reports version (a ∷ b ∷ c ∷ d ∷ e ∷ []) h fits = indexes_told base n named seven idle wpid serials.Unknown reports version a b c d e fits
+  all_indexes : (wpid reports : ℕ) (version : Option Version) (features : List FeatureIndex) → length features ≡ feature_count → IndexesFit features → run (at (pad_port wpid None reports version no_indexes)) (indexes_calls n known_features features) ≡ at (pad_port wpid None reports version features)
+  all_indexes wpid reports version (a ∷ b ∷ c ∷ d ∷ e ∷ []) h fits = indexes_told base n named seven idle wpid None reports version a b c d e fits
   all_indexes wpid reports version [] h fits = absurd (omega (arith, h))
   all_indexes wpid reports version (a ∷ []) h fits = absurd (omega (arith, h))
   all_indexes wpid reports version (a ∷ b ∷ []) h fits = absurd (omega (arith, h))
@@ -51,13 +48,13 @@ module _ (base : Station) (n : ℕ) (named : is_device n ≡ true) (seven : leng
   all_indexes wpid reports version (a ∷ b ∷ c ∷ d ∷ e ∷ f ∷ features) h fits = absurd (omega (arith, h))
 
   -- all that is known of a device is told
-  pad_told : (wpid reports : ℕ) (serial : Serial) (version : Version) (features : List FeatureIndex) → length features ≡ feature_count → IndexesFit features → run (at fresh_port) (take (paired_report n wpid reports) ∷ (version_calls n version ++ (indexes_calls n known_features features ++ serial_calls n serial))) ≡ at (pad_port wpid serial reports version features)
+  pad_told : (wpid reports : ℕ) (serial : Option ℕ) (version : Option Version) (features : List FeatureIndex) → length features ≡ feature_count → IndexesFit features → run (at fresh_port) (take (paired_report n wpid reports) ∷ (version_calls n version ++ (indexes_calls n known_features features ++ serial_calls n serial))) ≡ at (pad_port wpid serial reports version features)
   pad_told wpid reports serial version features all fits =
       run_append (at fresh_port) (take (paired_report n wpid reports) ∷ []) (version_calls n version ++ (indexes_calls n known_features features ++ serial_calls n serial))
       ∙ ap (λ (st : Station). run st (version_calls n version ++ (indexes_calls n known_features features ++ serial_calls n serial))) (paired base n named seven idle wpid reports)
-      ∙ run_append (at (pad_port wpid serials.Unknown reports versions.Unknown no_indexes)) (version_calls n version) (indexes_calls n known_features features ++ serial_calls n serial)
-      ∙ ap (λ (st : Station). run st (indexes_calls n known_features features ++ serial_calls n serial)) (version_told base n named seven idle wpid serials.Unknown reports version no_indexes)
-      ∙ run_append (at (pad_port wpid serials.Unknown reports version no_indexes)) (indexes_calls n known_features features) (serial_calls n serial)
+      ∙ run_append (at (pad_port wpid None reports None no_indexes)) (version_calls n version) (indexes_calls n known_features features ++ serial_calls n serial)
+      ∙ ap (λ (st : Station). run st (indexes_calls n known_features features ++ serial_calls n serial)) (version_told base n named seven idle wpid None reports version no_indexes)
+      ∙ run_append (at (pad_port wpid None reports version no_indexes)) (indexes_calls n known_features features) (serial_calls n serial)
       ∙ ap (λ (st : Station). run st (serial_calls n serial)) (all_indexes wpid reports version features all fits)
       ∙ serial_told base n named seven idle wpid reports version features serial
 
@@ -168,11 +165,11 @@ module _ (n : ℕ) (small : n ≤ device_count) where
   pairing_bytes wpid reports w r =
       (omega arith, (byte_n, (omega arith, (zero_byte, (omega arith, (omega (arith, w), (omega arith, (omega arith, (omega arith, (omega (arith, r), (zero_byte, (zero_byte, (zero_byte, (zero_byte, (zero_byte, tt)))))))))))))))
 
-  version_bytes : (version : Version) → VersionFits version → AllTakeOrAsk (version_calls n version)
+  version_bytes : (version : Option Version) → VersionFits version → AllTakeOrAsk (version_calls n version)
   unfolding AllTakeOrAsk
-  version_bytes versions.Unknown h = tt
-  version_bytes (versions.Known major minor) h =
-      (asks_bytes n 0 0x11 0 0 0 byte_n zero_byte (omega arith) zero_byte zero_byte zero_byte, (replies_bytes n 0 0x11 major minor 0 byte_n zero_byte (omega arith) (omega (arith, h.0)) (omega (arith, h.1)) zero_byte, tt))
+  version_bytes None h = tt
+  version_bytes (Some version) h =
+      (asks_bytes n 0 0x11 0 0 0 byte_n zero_byte (omega arith) zero_byte zero_byte zero_byte, (replies_bytes n 0 0x11 version.major version.minor 0 byte_n zero_byte (omega arith) (omega (arith, h.0)) (omega (arith, h.1)) zero_byte, tt))
 
   index_bytes : (feature index : ℕ) → feature < 65536 → index ≤ 63 → AllTakeOrAsk (index_calls n feature index)
   unfolding AllTakeOrAsk
@@ -186,10 +183,10 @@ module _ (n : ℕ) (small : n ≤ device_count) where
   indexes_bytes (index ∷ features) (feature ∷ known) h k =
       bytes_append (index_calls n feature index.0) (indexes_calls n known features) (index_bytes feature index.0 k.0 h.0) (indexes_bytes features known h.1 k.1)
 
-  serial_bytes : (serial : Serial) → SerialFits serial → AllTakeOrAsk (serial_calls n serial)
+  serial_bytes : (serial : Option ℕ) → SerialFits serial → AllTakeOrAsk (serial_calls n serial)
   unfolding AllTakeOrAsk TakesOrAsks AllBytes
-  serial_bytes serials.Unknown h = tt
-  serial_bytes (serials.Known serial) h =
+  serial_bytes None h = tt
+  serial_bytes (Some serial) h =
       let s : serial < 4294967296 = h in
       let first : parameter_for n < 256 = omega (arith, small) in
       (asks_bytes receiver long_register serial_register (parameter_for n) 0 0 (omega arith) (omega arith) (omega arith) first zero_byte zero_byte, ((omega arith, (omega arith, (omega arith, (omega arith, (first, (omega (arith, s), (omega arith, (omega arith, (omega arith, (zero_byte, (zero_byte, (zero_byte, (zero_byte, (zero_byte, (zero_byte, (zero_byte, (zero_byte, (zero_byte, (zero_byte, (zero_byte, tt)))))))))))))))))))), tt))

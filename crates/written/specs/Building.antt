@@ -1,13 +1,10 @@
 -- Document 02, Ask 3: the calls after which a station is the one that a store restores. A paired device is told by a 0x41, its version by a ping, its feature indexes by GetFeature, and its serial by the receiver.
-use Rattle.std.specs.Prelude.{ℕ, suc, ◌/◌, ◌%◌, ◌<◌, cond, List, [], ◌∷◌, ◌++◌, replicate}
+use Rattle.std.specs.Prelude.{ℕ, suc, ◌/◌, ◌%◌, ◌<◌, cond, List, [], ◌∷◌, ◌++◌, replicate, Option, Some, None}
 use Rattle.report.specs.Ports.{receiver}
 use Rattle.report.specs.Sizes.{hidpp_short, hidpp_long, dj_short}
 use Rattle.report.specs.declared.FeatureIndex.{FeatureIndex}
 use Rattle.port.specs.declared.Port.{Port}
 use Rattle.port.specs.declared.Version.{Version}
-use Rattle.port.specs.declared.Version.TheVariants as versions
-use Rattle.port.specs.declared.Serial.{Serial}
-use Rattle.port.specs.declared.Serial.TheVariants as serials
 use Rattle.port.specs.Records.{known_features}
 use Rattle.serial.specs.Serials.{long_register, serial_register, parameter_for}
 use Rattle.sequence.specs.Steps.{Call, take, request, cancel, tick, write, restore}
@@ -30,9 +27,9 @@ abbrev pub replies : (number byte2 byte3 p0 p1 p2 : ℕ) → Call
 replies number byte2 byte3 p0 p1 p2 = take (hidpp_short ∷ number ∷ byte2 ∷ byte3 ∷ p0 ∷ p1 ∷ p2 ∷ [])
 
 -- a ping with software id 1, and its reply
-abbrev pub version_calls : ℕ → Version → List Call
-version_calls number versions.Unknown = []
-version_calls number (versions.Known major minor) = asks number 0 0x11 0 0 0 ∷ replies number 0 0x11 major minor 0 ∷ []
+abbrev pub version_calls : ℕ → Option Version → List Call
+version_calls number None = []
+version_calls number (Some version) = asks number 0 0x11 0 0 0 ∷ replies number 0 0x11 version.major version.minor 0 ∷ []
 
 -- GetFeature with software id 1, and its reply
 abbrev pub index_calls : (number feature index : ℕ) → List Call
@@ -48,9 +45,9 @@ abbrev pub serial_answer : (number serial : ℕ) → List ℕ
 serial_answer number serial =
     hidpp_long ∷ receiver ∷ long_register ∷ serial_register ∷ parameter_for number ∷ serial / 256 / 256 / 256 ∷ serial / 256 / 256 % 256 ∷ serial / 256 % 256 ∷ serial % 256 ∷ replicate 11 0
 
-abbrev pub serial_calls : ℕ → Serial → List Call
-serial_calls number serials.Unknown = []
-serial_calls number (serials.Known serial) =
+abbrev pub serial_calls : ℕ → Option ℕ → List Call
+serial_calls number None = []
+serial_calls number (Some serial) =
     asks receiver long_register serial_register (parameter_for number) 0 0 ∷ take (serial_answer number serial) ∷ []
 
 -- all that is known of a paired device

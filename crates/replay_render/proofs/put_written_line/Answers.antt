@@ -2,7 +2,7 @@
 use Prim.Native.Nat.{ℕ}
 use mathlib.Core.Path.{sym, ap}
 use native.Mathlib.Omega.{arith}
-use Rattle.frame.specs.declared.Written.{Written}
+use Rattle.frame.specs.FrameContracts.{Written}
 use Rattle.text.specs.Words.{ascii}
 use Rattle.text.proofs.PuttingLaws.{at_most, same_text}
 use Rattle.replay_render.specs.AnswerLines.{outcome_text, written_text}
