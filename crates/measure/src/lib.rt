@@ -2,16 +2,15 @@
 #![tactic(auto)]
 
 ghost use Rattle.std.specs.Prelude.{◌≡◌, ◌≤◌};
+ghost use Rattle.report.specs.ReportContracts.{number_of};
 ghost use Rattle.measure.specs.Weights.{about_weight, take_weight, write_weight, cancel_weight, tick_weight, restore_weight};
 ghost use Rattle.measure.specs.MeasuredCalls.{measured, measured_by};
 ghost use Rattle.port.specs.PortContracts.{about_of, taken_of, cancel_of};
 ghost use Rattle.frame.specs.FrameContracts.{written_of};
 ghost use Rattle.restore.specs.RestoreContracts.{restored_of};
 
-use frame::Written;
 use port::answer::{About, Taken};
-use port::waiting::Cancelled;
-use report::{Device, FeatureIndex};
+use report::{Device, FeatureIndex, Refusal};
 use restore::NotRestored;
 use station::Station;
 
@@ -44,76 +43,64 @@ const LINE: u64 = 100;
 fn about_weight(base: u16, a: About) -> u64
     ensures { result ≡ about_weight base (about_of a) }
 {
-    (base as u64)
-        + (a.port.0 as u64)
-        + (a.byte2.0 as u64)
-        + (a.byte3 as u64)
-        + (a.start as u64)
-        + (a.length as u64)
+    u64::from(base)
+        + u64::from(a.port.0)
+        + u64::from(a.byte2.0)
+        + u64::from(a.byte3)
+        + u64::from(a.start)
+        + u64::from(a.length)
 }
 
-fn take_weight(answer: Taken) -> u64
+fn refusal_weight(refusal: Refusal) -> u64
+    ensures weight { result ≡ number_of refusal }
+    ensures small { result ≤ 255 }
+{
+    u64::from(u8::from(refusal))
+}
+
+fn take_weight(answer: Result<Taken, Refusal>) -> u64
     ensures { result ≡ take_weight (taken_of answer) }
 {
     match answer {
-        Taken::Refused(refusal) => refusal.number() as u64,
-        Taken::Reply { about, dropped } => about_weight(1000 + (dropped as u16), about),
-        Taken::Stray(a) => about_weight(2000, a),
-        Taken::Plain(a) => about_weight(3000, a),
-        Taken::Event(a) => about_weight(4000, a),
-        Taken::Failed { about, code, kind } => {
-            about_weight(5000 + (code as u16) + (kind.number() as u16), about)
+        Err(refusal) => refusal_weight(refusal),
+        Ok(Taken::Reply { about, dropped }) => about_weight(1000 + u16::from(dropped), about),
+        Ok(Taken::Stray(a)) => about_weight(2000, a),
+        Ok(Taken::Plain(a)) => about_weight(3000, a),
+        Ok(Taken::Event(a)) => about_weight(4000, a),
+        Ok(Taken::Failed { about, code, kind }) => {
+            about_weight(5000 + u16::from(code) + u16::from(u8::from(kind)), about)
         }
-        Taken::Radio {
+        Ok(Taken::Radio {
             kind,
             start,
             length,
-        } => 6000 + (kind as u64) + (start as u64) + (length as u64),
-        Taken::Noticed(_) => 7000,
+        }) => 6000 + u64::from(kind) + u64::from(start) + u64::from(length),
+        Ok(Taken::Noticed(_)) => 7000,
     }
 }
 
-fn write_weight(answer: Written) -> u64
+fn write_weight(answer: Result<usize, Refusal>) -> u64
     ensures { result ≡ write_weight (written_of answer) }
 {
     match answer {
-        Written::Refused(refusal) => refusal.number() as u64,
-        Written::Bytes(size) => size as u64,
+        Err(refusal) => refusal_weight(refusal),
+        Ok(size) => size as u64,
     }
 }
 
-fn cancel_weight(answer: Cancelled) -> u64
+fn cancel_weight(answer: Result<(), Refusal>) -> u64
     ensures { result ≡ cancel_weight (cancel_of answer) }
 {
     match answer {
-        Cancelled::Refused(refusal) => refusal.number() as u64,
-        Cancelled::Done => 0,
+        Err(refusal) => refusal_weight(refusal),
+        Ok(()) => 0,
     }
-}
-
-fn wide(x: u8) -> u64
-    ensures same { result ≡ x }
-    ensures small { result ≤ 255 }
-{
-    x as u64
-}
-
-fn ticks_of(x: u8) -> u16
-    ensures { result ≡ x }
-{
-    x as u16
 }
 
 fn tick_weight(ended: [u8; port::PORTS]) -> u64
     ensures { result ≡ tick_weight ended }
 {
-    wide(ended[0])
-        + wide(ended[1])
-        + wide(ended[2])
-        + wide(ended[3])
-        + wide(ended[4])
-        + wide(ended[5])
-        + wide(ended[6])
+    ended.iter().map(|count| u64::from(*count)).sum()
 }
 
 fn restore_weight(answer: Result<(), NotRestored>) -> u64
@@ -121,9 +108,14 @@ fn restore_weight(answer: Result<(), NotRestored>) -> u64
 {
     match answer {
         Ok(()) => RESTORED,
-        Err(NotRestored { refusal, line }) => {
-            (refusal.number() as u64) + LINE * (line.unwrap_or(0) as u64)
-        }
+        Err(NotRestored {
+            refusal,
+            line: None,
+        }) => refusal_weight(refusal),
+        Err(NotRestored {
+            refusal,
+            line: Some(line),
+        }) => refusal_weight(refusal) + LINE * u64::from(line),
     }
 }
 
@@ -136,75 +128,53 @@ pub extern "C" fn blotterfinch_measure(calls: &[u8], text: &[u8], buffer: &mut [
     let turns = calls.len() / CALL;
     let mut s = Station::new();
     let mut sum: u64 = 0;
-    let mut i = 0;
-    while i < turns {
+    for i in 0..turns {
         let at = CALL * i;
         let kind = calls[at];
         let start = at + HEAD;
-        let end = start + (calls[at + 1] % ROOM) as usize;
-        let device = calls[at + 2];
-        let byte2 = calls[at + 3];
+        let end = start + usize::from(calls[at + 1] % ROOM);
+        let device = Device(calls[at + 2]);
+        let byte2 = FeatureIndex(calls[at + 3]);
         let byte3 = calls[at + 4];
-        let ticks = ticks_of(calls[at + 5]);
-        i += 1;
-        match kind {
+        let ticks = u16::from(calls[at + 5]);
+        let weight = match kind {
             TAKE => {
-                let t = s.take(&calls[start..end]);
-                let next = t.station;
-                s = next;
-                let answer = t.answer;
-                sum = std::num::wrapping_add_u64(sum, take_weight(answer));
-                continue;
+                let taken = s.take(&calls[start..end]);
+                s = taken.next;
+                take_weight(taken.answer)
             }
             REQUEST => {
-                let r = s.request(
-                    Device(device),
-                    FeatureIndex(byte2),
+                let requested = s.request(
+                    device,
+                    byte2,
                     byte3,
                     ticks,
                     &calls[start..end],
                     buffer,
                     0,
                 );
-                let next = r.station;
-                s = next;
-                let answer = r.answer;
-                sum = std::num::wrapping_add_u64(sum, write_weight(answer));
-                continue;
+                s = requested.next;
+                write_weight(requested.answer)
             }
             CANCEL => {
-                let c = s.cancel(Device(device), FeatureIndex(byte2), byte3);
-                let next = c.station;
-                s = next;
-                let answer = c.answer;
-                sum = std::num::wrapping_add_u64(sum, cancel_weight(answer));
-                continue;
+                let cancelled = s.cancel(device, byte2, byte3);
+                s = cancelled.next;
+                cancel_weight(cancelled.answer)
             }
             TICK => {
-                let t = s.tick();
-                let next = t.station;
-                s = next;
-                let ended = t.ended;
-                sum = std::num::wrapping_add_u64(sum, tick_weight(ended));
-                continue;
+                let ticked = s.tick();
+                s = ticked.next;
+                tick_weight(ticked.answer)
             }
-            STORE => {
-                sum = std::num::wrapping_add_u64(sum, write_weight(s.store(buffer, 0)));
-                continue;
-            }
+            STORE => write_weight(s.store(buffer, 0)),
             RESTORE => {
-                let r = s.restore(text);
-                let next = r.station;
-                s = next;
-                let answer = r.answer;
-                sum = std::num::wrapping_add_u64(sum, restore_weight(answer));
-                continue;
+                let restored = s.restore(text);
+                s = restored.next;
+                restore_weight(restored.answer)
             }
-            _ => {
-                sum = std::num::wrapping_add_u64(sum, write_weight(s.list(buffer, 0)));
-                continue;
-            }
-        }
+            _ => write_weight(s.list(buffer, 0)),
+        };
+        sum = sum.wrapping_add(weight);
     }
     sum
 }
