@@ -108,14 +108,13 @@ fn restore_weight(answer: Result<(), NotRestored>) -> u64
 {
     match answer {
         Ok(()) => RESTORED,
-        Err(NotRestored {
-            refusal,
-            line: None,
-        }) => refusal_weight(refusal),
-        Err(NotRestored {
-            refusal,
-            line: Some(line),
-        }) => refusal_weight(refusal) + LINE * u64::from(line),
+        Err(NotRestored { refusal, line }) => {
+            let number = refusal_weight(refusal);
+            match line {
+                Some(line) => number + LINE * u64::from(line),
+                None => number,
+            }
+        }
     }
 }
 

@@ -1,11 +1,11 @@
 -- Helpers of contracts: what the program read, in the terms of the rules.
 use Rattle.std.specs.Prelude.{ℕ, List, Result, Ok, Err, Option, Some, None}
 use Rattle.report.specs.ReportContracts.{number_of}
+use Rattle.port.specs.declared.Called.{Called}
 use Rattle.port.specs.declared.Port.{Port}
 use Rattle.scan.specs.Scans.{Scan, found, then_scan}
 use Rattle.scan.specs.ScanContracts.{capped}
 use Rattle.restore.specs.declared.NotRestored.{NotRestored}
-use Rattle.restore.specs.declared.Restoring as program
 use Rattle.restore.specs.Restoring as rules
 
 -- a refusal, with a line or without
@@ -17,8 +17,8 @@ abbrev pub restored_of : Result (Unit {0}) NotRestored → rules.RestoreAnswer
 restored_of (Ok _) = rules.restored
 restored_of (Err e) = refused_by (number_of e.refusal) e.line
 
-abbrev pub restoring_of : program.Restoring → rules.Restoring
-restoring_of r = record { answer = restored_of r.answer; ports = r.ports }
+abbrev pub restoring_of : Called (Result (Unit {0}) NotRestored) (List Port) → rules.Restoring
+restoring_of r = record { answer = restored_of r.answer; ports = r.next }
 
 -- the answer to a read of these ports, and the ports after it
 abbrev pub restoring_by : List Port → Result (List Port) NotRestored → rules.Restoring

@@ -10,7 +10,7 @@ ghost use Rattle.store.specs.Stores.{pad_port};
 ghost use Rattle.restore.specs.Restoring.{stop_after, indexes_scan, device_scan, devices_in, restored_by, read_store, restore_ports};
 ghost use Rattle.restore.specs.RestoreContracts.{restoring_of, restoring_by, capped_edition};
 
-use port::{Port, Version};
+use port::{Called, Port, Version};
 use report::{FeatureIndex, Refusal};
 
 // Devices 1 to 6 have positions 0 to 5 among the ports; the receiver comes last.
@@ -24,13 +24,6 @@ const EDITION: u16 = 1;
 pub struct NotRestored {
     pub refusal: Refusal,
     pub line: Option<u8>,
-}
-
-// The answer to a read, and the ports after it.
-#[derive(Clone, Copy, PartialEq, Eq)]
-pub struct Restoring {
-    pub answer: Result<(), NotRestored>,
-    pub ports: [Port; port::PORTS],
 }
 
 // The byte after the index at a position.
@@ -157,17 +150,20 @@ fn read_store(text: &[u8]) -> Result<[Port; port::PORTS], NotRestored>
 
 // Reads a store: the ports are those of the store, or stay as they were, refused with 15, or with 16 and the number of a line.
 #[tactic(auto, unfolding(crate::specs::Restoring::restore_ports))]
-pub fn restore(ports: [Port; port::PORTS], text: &[u8]) -> Restoring
+pub fn restore(
+    ports: [Port; port::PORTS],
+    text: &[u8],
+) -> Called<Result<(), NotRestored>, [Port; port::PORTS]>
     ensures read { restoring_of result ≡ restore_ports ports text.now }
 {
     match read_store(text) {
-        Ok(ports) => Restoring {
+        Ok(read) => Called {
             answer: Ok(()),
-            ports,
+            next: read,
         },
-        Err(reason) => Restoring {
+        Err(reason) => Called {
             answer: Err(reason),
-            ports,
+            next: ports,
         },
     }
 }
