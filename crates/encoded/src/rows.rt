@@ -1,15 +1,15 @@
 // The row of one answer: the kind, and the answer's values.
-ghost use Rattle.std.specs.Prelude.{◌≡◌};
+ghost use Rattle.std.specs.Prelude.{◌≡◌, [], ◌∷◌};
+ghost use Rattle.report.specs.ReportContracts.{number_of};
 ghost use Rattle.port.specs.Answers.{paired};
 ghost use Rattle.encoded.specs.Encoding.{low};
-ghost use Rattle.encoded.specs.Rows.{bit_of, about_row, notice_row, taken_row, written_row, cancelled_row, ticked_row, restored_row};
+ghost use Rattle.encoded.specs.Rows.{row, about_row, notice_row, taken_row, written_row, cancelled_row, ticked_row, restored_row};
 ghost use Rattle.port.specs.PortContracts.{about_of, taken_of, notice_of, cancel_of};
 ghost use Rattle.frame.specs.FrameContracts.{written_of};
 ghost use Rattle.restore.specs.RestoreContracts.{restored_of};
 
-use frame::Written;
 use port::answer::{About, Notice, Taken};
-use port::waiting::Cancelled;
+use report::Refusal;
 use restore::NotRestored;
 
 // The longest answer is a pairing: kind, port, more, two bytes of WPID, four of bitfield, and the count of dropped requests.
@@ -22,15 +22,6 @@ fn low(n: usize) -> u8
     ensures { result ≡ low n }
 {
     (n % VALUES) as u8
-}
-
-fn bit(b: bool) -> u8
-    ensures { result ≡ bit_of b }
-{
-    if b {
-        return 1;
-    }
-    0
 }
 
 // A reply's value is its drop count, an error's its code.
@@ -59,7 +50,7 @@ fn of_paired(port: u8, more: bool, wpid: usize, reports: usize, dropped: u8) -> 
     [
         8,
         port,
-        bit(more),
+        u8::from(more),
         low(wpid),
         low(wpid / VALUES),
         low(reports),
@@ -83,45 +74,52 @@ fn of_notice(notice: Notice) -> [u8; ROW]
             dropped,
         } => of_paired(port.0, more, wpid as usize, reports as usize, dropped),
         Notice::EmptyList => [9, 0, 0, 0, 0, 0, 0, 0, 0, 0],
-        Notice::Link { port, up } => [10, port.0, bit(up), 0, 0, 0, 0, 0, 0, 0],
+        Notice::Link { port, up } => [10, port.0, u8::from(up), 0, 0, 0, 0, 0, 0, 0],
         Notice::Other { port, kind } => [11, port.0, kind, 0, 0, 0, 0, 0, 0, 0],
     }
 }
 
-pub fn of_taken(answer: Taken) -> [u8; ROW]
+// A refusal's kind, and its number.
+fn of_refusal(kind: u8, refusal: Refusal) -> [u8; ROW]
+    ensures { result ≡ row (kind ∷ number_of refusal ∷ []) }
+{
+    [kind, u8::from(refusal), 0, 0, 0, 0, 0, 0, 0, 0]
+}
+
+pub fn of_taken(answer: Result<Taken, Refusal>) -> [u8; ROW]
     ensures row { result ≡ taken_row (taken_of answer) }
 {
     match answer {
-        Taken::Refused(refusal) => [0, refusal.number(), 0, 0, 0, 0, 0, 0, 0, 0],
-        Taken::Reply { about, dropped } => of_about(1, about, dropped, 0),
-        Taken::Stray(about) => of_about(2, about, 0, 0),
-        Taken::Plain(about) => of_about(3, about, 0, 0),
-        Taken::Event(about) => of_about(4, about, 0, 0),
-        Taken::Failed { about, code, kind } => of_about(5, about, code, kind.number()),
-        Taken::Radio {
+        Err(refusal) => of_refusal(0, refusal),
+        Ok(Taken::Reply { about, dropped }) => of_about(1, about, dropped, 0),
+        Ok(Taken::Stray(about)) => of_about(2, about, 0, 0),
+        Ok(Taken::Plain(about)) => of_about(3, about, 0, 0),
+        Ok(Taken::Event(about)) => of_about(4, about, 0, 0),
+        Ok(Taken::Failed { about, code, kind }) => of_about(5, about, code, u8::from(kind)),
+        Ok(Taken::Radio {
             kind,
             start,
             length,
-        } => [6, kind, start, length, 0, 0, 0, 0, 0, 0],
-        Taken::Noticed(notice) => of_notice(notice),
+        }) => [6, kind, start, length, 0, 0, 0, 0, 0, 0],
+        Ok(Taken::Noticed(notice)) => of_notice(notice),
     }
 }
 
-pub fn of_written(answer: Written) -> [u8; ROW]
+pub fn of_written(answer: Result<usize, Refusal>) -> [u8; ROW]
     ensures row { result ≡ written_row (written_of answer) }
 {
     match answer {
-        Written::Refused(refusal) => [12, refusal.number(), 0, 0, 0, 0, 0, 0, 0, 0],
-        Written::Bytes(n) => [13, low(n), low(n / VALUES), 0, 0, 0, 0, 0, 0, 0],
+        Err(refusal) => of_refusal(12, refusal),
+        Ok(n) => [13, low(n), low(n / VALUES), 0, 0, 0, 0, 0, 0, 0],
     }
 }
 
-pub fn of_cancelled(answer: Cancelled) -> [u8; ROW]
+pub fn of_cancelled(answer: Result<(), Refusal>) -> [u8; ROW]
     ensures row { result ≡ cancelled_row (cancel_of answer) }
 {
     match answer {
-        Cancelled::Refused(refusal) => [14, refusal.number(), 0, 0, 0, 0, 0, 0, 0, 0],
-        Cancelled::Done => [15, 0, 0, 0, 0, 0, 0, 0, 0, 0],
+        Err(refusal) => of_refusal(14, refusal),
+        Ok(()) => [15, 0, 0, 0, 0, 0, 0, 0, 0, 0],
     }
 }
 
@@ -138,7 +136,7 @@ pub fn of_restored(answer: Result<(), NotRestored>) -> [u8; ROW]
 {
     match answer {
         Err(NotRestored { refusal, line }) => {
-            [17, refusal.number(), line.unwrap_or(0), 0, 0, 0, 0, 0, 0, 0]
+            [17, u8::from(refusal), line.unwrap_or(0), 0, 0, 0, 0, 0, 0, 0]
         }
         Ok(()) => [18, 0, 0, 0, 0, 0, 0, 0, 0, 0],
     }
