@@ -30,6 +30,7 @@ pub fn put_code(out: &mut Out, n: u8)
     out.hex(text::DIGITS_8, n as usize)
 }
 
+#[tactic(auto, unfolding(crate::specs::AnswerFields::flag))]
 pub fn put_flag(out: &mut Out, on: bool)
     ensures put { Outputs flag_most (flag on) out.old out.new }
 {

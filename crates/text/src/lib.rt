@@ -73,6 +73,7 @@ impl Out<'_> {
         }
     }
 
+    #[tactic(auto, unfolding(crate::specs::Words::digit))]
     fn digit(&mut self, n: usize)
         requires { n < 16 }
         ensures { Outputs 1 (digit n ∷ []) self.old self.new }
@@ -109,6 +110,7 @@ impl Out<'_> {
         self.decimal(n as usize)
     }
 
+    #[tactic(auto, unfolding(crate::specs::Texts::link_text), using(crate::proofs::PuttingLaws::out_at_most))]
     pub fn link(&mut self, up: bool)
         ensures put { Outputs link_most (link_text up) self.old self.new }
     {
@@ -119,6 +121,7 @@ impl Out<'_> {
         }
     }
 
+    #[tactic(auto, unfolding(crate::specs::Texts::version_text), using(crate::proofs::PuttingLaws::out_at_most))]
     pub fn version(&mut self, version: Option<Version>)
         ensures put { Outputs version_most (version_text version) self.old self.new }
     {
@@ -132,6 +135,7 @@ impl Out<'_> {
         }
     }
 
+    #[tactic(auto, unfolding(crate::specs::Texts::battery_text), using(crate::proofs::PuttingLaws::out_at_most))]
     pub fn battery(&mut self, battery: Option<Battery>)
         ensures put { Outputs battery_most (battery_text battery) self.old self.new }
     {
@@ -147,6 +151,7 @@ impl Out<'_> {
         }
     }
 
+    #[tactic(auto, unfolding(crate::specs::Texts::serial_text), using(crate::proofs::PuttingLaws::out_at_most))]
     pub fn serial(&mut self, serial: Option<u32>)
         ensures put { Outputs serial_most (serial_text serial) self.old self.new }
     {
