@@ -132,7 +132,7 @@ fn read_devices(text: &[u8]) -> Result<[Port; port::PORTS], NotRestored>
 }
 
 // The whole text.
-#[tactic(auto, unfolding(crate::specs::Restoring::read_store), using(crate::proofs::RestoringLaws::edition_other, crate::proofs::RestoringLaws::edition_same))]
+#[tactic(auto, unfolding(crate::specs::Restoring::read_store), using(crate::proofs::RestoringLaws::edition_other))]
 fn read_store(text: &[u8]) -> Result<[Port; port::PORTS], NotRestored>
     ensures { (ports : List Port) → restoring_by ports result ≡ restored_by ports (read_store text.now) }
 {

@@ -121,7 +121,7 @@ fn scan_digits(text: &[u8], width: u8) -> Option<(u32, &[u8])>
     Some((value, rest))
 }
 
-// A number of 16 bits, and the byte after it. It and the next are no one function over the width: no public function has a `requires`, and nine digits would overflow.
+// A number of 16 bits, and the byte after it. Not one function with the next, over the width: no public function has a `requires`, and nine digits would overflow.
 #[tactic(auto, unfolding(crate::specs::Scans::hex_scan))]
 pub fn scan_hex16(text: &[u8], stop: u8) -> Option<(u16, &[u8])>
     ensures found { scan_of result ≡ hex_scan digits16 stop text.now }
