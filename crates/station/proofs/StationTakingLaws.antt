@@ -29,8 +29,8 @@ use Rattle.serial.specs.Serials.{Given, no_serial, serial_of, given_by, SerialRe
 use Rattle.serial.specs.SerialContracts.{given_of, kept_of}
 use Rattle.serial.proofs.GivingLaws.{given_exactly}
 use Rattle.dj.specs.DjTaking.{take_dj}
-use Rattle.dj.specs.DjContracts.{accepted_length}
-use Rattle.dj.proofs.DjTakingLaws.{take_accepted}
+use Rattle.dj.specs.DjContracts.{accepted_length, length_accepted}
+use Rattle.dj.proofs.DjTakingLaws.{take_accepted, take_accepted_length}
 use Rattle.station.specs.declared.Station.{Station}
 use Rattle.station.specs.Stations.{receiver_position, position_of, no_port, port_at, port_for, with_port}
 use Rattle.station.proofs.StationsLaws.{device_number, device_position, other_position}
@@ -45,15 +45,15 @@ module _ (st : Station) (a : std.Result Taken Refusal) where
   pub also_none : {g : Option program.Given} → g ≡ None → before ≡ also_at st (given_of g) before
   also_none e = ap (λ (g : Option program.Given). also_at st (given_of g) before) (sym e)
 
-  pub also_kept : (k : Called ℕ Port) (b : std.Result Taken Refusal) {g : Option program.Given} {device : Device} {number position : ℕ} → g ≡ Some (record { device = device; number = number }) → position ≡ position_of device.0 → kept_of k ≡ serial_rule (port_at st position) number → taken_of b ≡ with_drops k.answer (taken_of a) → take_outcome (record { answer = b; next = record { ports = set st.nexts position k.next } }) ≡ also_at st (given_of g) before
+  pub also_kept : (k : Called ℕ Port) (b : std.Result Taken Refusal) {g : Option program.Given} {device : Device} {number position : ℕ} → g ≡ Some (record { device = device; number = number }) → position ≡ position_of device.0 → kept_of k ≡ serial_rule (port_at st position) number → taken_of b ≡ with_drops k.answer (taken_of a) → take_outcome (record { answer = b; next = record { ports = set st.ports position k.next } }) ≡ also_at st (given_of g) before
   unfolding with_port
   also_kept k b {g} {device} {number} {position} e p kept drops =
-      (λ i. record { answer = drops i; station = record { ports = set st.nexts (p i) k.next } })
+      (λ i. record { answer = drops i; station = record { ports = set st.ports (p i) k.next } })
       ∙ ap told (kept ∙ ap (λ (i : ℕ). serial_rule (port_at st i) number) p)
       ∙ ap (λ (x : Option program.Given). also_at st (given_of x) before) (sym e)
     where
       told : SerialResult → TakeOutcome
-      told x = record { answer = with_drops x.dropped (taken_of a); station = record { ports = set st.nexts (position_of device.0) x.port } }
+      told x = record { answer = with_drops x.dropped (taken_of a); station = record { ports = set st.ports (position_of device.0) x.port } }
 
 module _ (st : Station) (bytes : List ℕ) where
   pub take_read : {r : reading.Read} → reading.read_rule bytes ≡ r → take_by r bytes st ≡ take_rule st bytes
@@ -66,7 +66,7 @@ module _ (st : Station) (bytes : List ℕ) where
   not_own r q device number e =
       let g = (given_exactly (port_for st r.device) r bytes device number).0 e in
       let own : position_of r.device ≡ receiver_position = ap position_of g.receiver ∙ sym (other_position 255 refl).0 in
-      get_or-set_other st.nexts (position_of r.device) (position_of device) q no_port (λ z.
+      get_or-set_other st.ports (position_of r.device) (position_of device) q no_port (λ z.
       omega (arith, z, own, (device_position device g.named).0, (device_number device g.named).0, (device_number device g.named).1))
 
   also_after : (r : Report) (x : Result) (g : Given) → given_by (port_for st r.device) r bytes ≡ g → also_at (with_port st (position_of r.device) x.port) g (stored_at st (position_of r.device) x) ≡ also_at st g (stored_at st (position_of r.device) x)
@@ -77,7 +77,7 @@ module _ (st : Station) (bytes : List ℕ) where
       told p = record { answer = with_drops (serial_rule p number).dropped x.answer; station = with_port (with_port st (position_of r.device) x.port) (position_of device) (serial_rule p number).port }
 
   -- a HID++ report at its port, and then the serial that it gives
-  pub take_hidpp_law : (h : HidppReport) (t : Called (std.Result Taken Refusal) Port) (g : Option program.Given) {position : ℕ} {result : TakeOutcome} → reading.read_rule bytes ≡ reading_of (Ok (Hidpp h)) → position ≡ position_of h.device.0 → given_of g ≡ given_by (port_at st position) (hidpp_of h) bytes → result_of t ≡ take_hidpp (port_at st position) (message_of (hidpp_of h) bytes) → result ≡ also_at (record { ports = set st.nexts position t.next }) (given_of g) (record { answer = taken_of t.answer; station = record { ports = set st.nexts position t.next } }) → result ≡ take_rule st bytes
+  pub take_hidpp_law : (h : HidppReport) (t : Called (std.Result Taken Refusal) Port) (g : Option program.Given) {position : ℕ} {result : TakeOutcome} → reading.read_rule bytes ≡ reading_of (Ok (Hidpp h)) → position ≡ position_of h.device.0 → given_of g ≡ given_by (port_at st position) (hidpp_of h) bytes → result_of t ≡ take_hidpp (port_at st position) (message_of (hidpp_of h) bytes) → result ≡ also_at (record { ports = set st.ports position t.next }) (given_of g) (record { answer = taken_of t.answer; station = record { ports = set st.ports position t.next } }) → result ≡ take_rule st bytes
   unfolding take_by with_port
   take_hidpp_law h t g {position} read p given at also =
       let own : ℕ = position_of h.device.0 in
@@ -91,7 +91,7 @@ module _ (st : Station) (bytes : List ℕ) where
       ∙ ap (λ (y : Given). also_at st y (stored_at st own (take_hidpp (port_for st h.device.0) (message_of r bytes)))) is_given
       ∙ take_read read
 
-  pub take_dj_law : (d : DjReport) (t : Called (std.Result Taken Refusal) Port) {position : ℕ} → reading.read_rule bytes ≡ reading_of (Ok (Dj d)) → position ≡ position_of d.device.0 → result_of t ≡ take_dj (port_at st position) (dj_of d) bytes → take_outcome (record { answer = t.answer; next = record { ports = set st.nexts position t.next } }) ≡ take_rule st bytes
+  pub take_dj_law : (d : DjReport) (t : Called (std.Result Taken Refusal) Port) {position : ℕ} → reading.read_rule bytes ≡ reading_of (Ok (Dj d)) → position ≡ position_of d.device.0 → result_of t ≡ take_dj (port_at st position) (dj_of d) bytes → take_outcome (record { answer = t.answer; next = record { ports = set st.ports position t.next } }) ≡ take_rule st bytes
   unfolding take_by with_port
   take_dj_law d t {position} e p r =
       ap (stored_at st position) r
@@ -99,6 +99,11 @@ module _ (st : Station) (bytes : List ℕ) where
       ∙ take_read e
 
   -- a radio report that is accepted: the port's link is set, and nothing else
-  pub take_radio : (d : DjReport) (payload : ℕ) {position : ℕ} → reading.read_rule bytes ≡ reading_of (Ok (Dj d)) → position ≡ position_of d.device.0 → payload ≡ accepted_length (port_at st position).paired (port_at st position).reports d.kind d.length bytes → ¬ (payload ≡ 0) → take_outcome (record { answer = Ok (Radio d.kind dj_start payload); next = record { ports = set st.nexts position (with_link (port_at st position) true) } }) ≡ take_rule st bytes
+  pub take_radio : (d : DjReport) (payload : ℕ) {position : ℕ} → reading.read_rule bytes ≡ reading_of (Ok (Dj d)) → position ≡ position_of d.device.0 → payload ≡ accepted_length (port_at st position).paired (port_at st position).reports d.kind d.length bytes → ¬ (payload ≡ 0) → take_outcome (record { answer = Ok (Radio d.kind dj_start payload); next = record { ports = set st.ports position (with_link (port_at st position) true) } }) ≡ take_rule st bytes
   take_radio d payload {position} e p h some =
       take_dj_law d (record { answer = Ok (Radio d.kind dj_start payload); next = with_link (port_at st position) true }) e p (take_accepted (port_at st position) (dj_of d) bytes payload h some)
+
+  -- the same of the length that the program was given
+  pub take_radio_length : (d : DjReport) (payload : ℕ) {position : ℕ} → reading.read_rule bytes ≡ reading_of (Ok (Dj d)) → position ≡ position_of d.device.0 → Some payload ≡ length_accepted (port_at st position).paired (port_at st position).reports d.kind d.length bytes → take_outcome (record { answer = Ok (Radio d.kind dj_start payload); next = record { ports = set st.ports position (with_link (port_at st position) true) } }) ≡ take_rule st bytes
+  take_radio_length d payload {position} e p h =
+      take_dj_law d (record { answer = Ok (Radio d.kind dj_start payload); next = with_link (port_at st position) true }) e p (take_accepted_length (port_at st position) (dj_of d) bytes payload h)

@@ -54,6 +54,7 @@ fn with_drops(answer: Result<Taken, Refusal>, dropped: u8) -> Result<Taken, Refu
 }
 
 // The number of requests that a tick ends on one port.
+#[tactic(auto, unfolding(crate::specs::StationCalls::ended_on))]
 fn ended_on(port: Port) -> u8
     ensures { result ≡ ended_on port }
 {
@@ -61,6 +62,7 @@ fn ended_on(port: Port) -> u8
 }
 
 // One port after a tick.
+#[tactic(auto, unfolding(crate::specs::StationCalls::ticked_port))]
 fn ticked(port: Port) -> Port
     ensures { result ≡ ticked_port port }
 {
@@ -68,6 +70,7 @@ fn ticked(port: Port) -> Port
 }
 
 impl Station {
+    #[tactic(auto, unfolding(crate::specs::Stations::fresh_station))]
     pub fn new() -> Station
         ensures fresh { result ≡ fresh_station }
     {
@@ -243,9 +246,10 @@ impl Station {
         ensures outcome { RestorePromise self text.now result }
     {
         let read = restore::restore(self.ports, text);
+        let ports = read.next;
         Called {
             answer: read.answer,
-            next: Station { ports: read.next },
+            next: Station { ports },
         }
     }
 }
