@@ -182,7 +182,7 @@ impl Out<'_> {
     }
 }
 
-// Writes a whole text at its offset, or answers 10.
+// Writes a whole text at its offset, or answers 10. C hands a buffer and an offset in it.
 pub fn write_at(bytes: &[u8], buffer: &mut [u8], offset: usize) -> Result<usize, Refusal>
     ensures written { written_outcome result buffer.new ≡ frame_at bytes.now offset buffer.old }
 {
