@@ -12,8 +12,7 @@ use Rattle.report.specs.Reading as reading
 use Rattle.report.specs.Reading.{Read, report_from, hidpp_rule, dj_rule, family_rule, read_rule}
 use Rattle.frame.specs.Writing.{request_frame_rule, switch_rule, get_paired_rule, led_rule, WriteOutcome, fits_at}
 use Rattle.mouse.specs.Movement.{mouse_rule}
-use Rattle.frame.specs.FrameContracts.{Written}
-use Rattle.frame.specs.FrameContracts.{written_of, written_outcome}
+use Rattle.frame.specs.FrameContracts.{Written, written_of, written_outcome}
 use Rattle.port.specs.declared.Port.{Port}
 use Rattle.port.specs.declared.Request.{Request}
 use Rattle.port.specs.Records.{empty_place, fresh_port, made_fresh, request_in, with_pairing, with_serial}
@@ -44,12 +43,7 @@ use Rattle.blotterfinch.proofs.blotterfinch_get_paired_frame.Reads as get_paired
 use Rattle.blotterfinch.proofs.blotterfinch_led_frame.Reads as led_reads
 use Rattle.blotterfinch.proofs.blotterfinch_mouse.Reads as mouse_reads
 use Rattle.station.specs.declared.Station.{Station}
-use Rattle.station.specs.StationContracts.{TakeResult}
-use Rattle.station.specs.StationContracts.{RequestResult}
-use Rattle.station.specs.StationContracts.{CancelResult}
-use Rattle.station.specs.StationContracts.{TickResult}
-use Rattle.station.specs.StationContracts.{take_outcome, request_outcome, cancel_outcome, tick_outcome, restore_outcome}
-use Rattle.station.specs.StationContracts.{RestoreResult}
+use Rattle.station.specs.StationContracts.{TakeCalled, RequestCalled, CancelCalled, TickCalled, take_outcome, request_outcome, cancel_outcome, tick_outcome, restore_outcome, RestoreCalled}
 use Rattle.station.specs.StationCalls.{RestoreOutcome, restored_to}
 use Rattle.store.specs.Stores.{store_text, stored_of, Store}
 use Rattle.restore.specs.Restoring.{restored, refused, refused_at}
@@ -140,7 +134,7 @@ module _ (d : Demands) where
       (d.refuses st placed (write (led 7 leds) offset lent) (write_step st (written_outcome r after)) e 5).1 (led5 refl)
 
   -- device 2 is paired and sends keys: a key report whose last byte is not zero is refused with 17
-  rubbish_refused : (st : Station) → AllPlaced st → (port_for st 2).paired ≡ true → is_declared (port_for st 2).reports 1 ≡ true → (r : TakeResult) → Ensured st (take rubbish) (take_step rubbish (take_outcome r)) → RefusedWith (taken (taken_of r.answer)) 17
+  rubbish_refused : (st : Station) → AllPlaced st → (port_for st 2).paired ≡ true → is_declared (port_for st 2).reports 1 ≡ true → (r : TakeCalled) → Ensured st (take rubbish) (take_step rubbish (take_outcome r)) → RefusedWith (taken (taken_of r.answer)) 17
   unfolding length_of report_from dj_rule family_rule read_rule
   rubbish_refused st placed paired declared r e =
       (d.refuses st placed (take rubbish) (take_step rubbish (take_outcome r)) e 17).1
@@ -151,7 +145,7 @@ module _ (d : Demands) where
   has_row st placed c o e number = (d.refuses st placed c o e number).0
 
   -- a refused request leaves the station, and the buffer
-  module _ (st : Station) (device byte2 byte3 ticks : ℕ) (params : List ℕ) (offset : ℕ) (lent : List ℕ) (r : RequestResult) (after : List ℕ) (e : Ensured st (request device byte2 byte3 ticks params offset lent) (request_step params (request_outcome r after))) (q : is_refusal (written (written_of r.answer)) ≡ true) where
+  module _ (st : Station) (device byte2 byte3 ticks : ℕ) (params : List ℕ) (offset : ℕ) (lent : List ℕ) (r : RequestCalled) (after : List ℕ) (e : Ensured st (request device byte2 byte3 ticks params offset lent) (request_step params (request_outcome r after))) (q : is_refusal (written (written_of r.answer)) ≡ true) where
     refused_station : r.next ≡ st
     refused_station = d.station_kept st _ _ e q
 
@@ -208,7 +202,7 @@ module _ (d : Demands) where
   ping = record { byte2 = record { 0 = 0x00 }; byte3 = 0x11; first = record { 0 = 0x00; 1 = 0x00; 2 = 0x5B }; ticks = 50 }
 
   -- a ping that waits at device 2 is answered by a report with its third parameter; one with another leaves the station
-  module _ (st : Station) (k : Reached st) (place : ℕ) (is : request_in (port_for st 2).places place ≡ ping) (r : TakeResult) where
+  module _ (st : Station) (k : Reached st) (place : ℕ) (is : request_in (port_for st 2).places place ≡ ping) (r : TakeCalled) where
     own_reply : Answers (ping_reply 0x5B) (request_in (port_for st 2).places place)
     own_reply =
         record {
@@ -235,7 +229,7 @@ module _ (d : Demands) where
         })
 
   -- so does a long one that comes for the receiver's ping
-  late_receiver : (st : Station) → Reached st → (place : ℕ) → request_in (port_for st 255).places place ≡ ping → (r : TakeResult) → Ensured st (take receiver_reply) (take_step receiver_reply (take_outcome r)) → r.next ≡ st
+  late_receiver : (st : Station) → Reached st → (place : ℕ) → request_in (port_for st 255).places place ≡ ping → (r : TakeCalled) → Ensured st (take receiver_reply) (take_step receiver_reply (take_outcome r)) → r.next ≡ st
   unfolding read_rule family_rule hidpp_rule report_from length_of
   late_receiver st k place is r e =
       (d.other_pings st k receiver_reply r e (record {
@@ -248,13 +242,13 @@ module _ (d : Demands) where
       })).1
 
   -- where none waits the rules go on: a plain notice from a device of version 1.0
-  none_waits : (st : Station) → AllPlaced st → is_major1 (port_for st 2).version ≡ true → ¬ Waits (port_for st 2) 0x00 0x11 → (r : TakeResult) → Ensured st (take (ping_reply 0x5A)) (take_step (ping_reply 0x5A) (take_outcome r)) → taken_of r.answer ≡ answers.plain about_reply
+  none_waits : (st : Station) → AllPlaced st → is_major1 (port_for st 2).version ≡ true → ¬ Waits (port_for st 2) 0x00 0x11 → (r : TakeCalled) → Ensured st (take (ping_reply 0x5A)) (take_step (ping_reply 0x5A) (take_outcome r)) → taken_of r.answer ≡ answers.plain about_reply
   unfolding read_rule family_rule hidpp_rule report_from length_of message_of
   none_waits st placed version unasked r e =
       let by_case : StepCase st (take (ping_reply 0x5A)) _ = hidpp_at_port {r = report_from hidpp_start (ping_reply 0x5A)} refl (λ device number g. let z : ◌≡◌ {A = ℕ} 0 0x83 = g.byte2 in omega arith) (gives_plain (major1 (refl, unasked) (lit< tt) version)) in
       same_taken (ap (λ (o : Outcome). o.answer) (d.answers st (take (ping_reply 0x5A)) _ e ∙ (d.of_the_rules.cases st placed (take (ping_reply 0x5A)) _).1 by_case))
 
-  module _ (st : Station) (k : Reached st) (bytes : List ℕ) (r : TakeResult) (e : Ensured st (take bytes) (take_step bytes (take_outcome r))) where
+  module _ (st : Station) (k : Reached st) (bytes : List ℕ) (r : TakeCalled) (e : Ensured st (take bytes) (take_step bytes (take_outcome r))) where
     -- where one waits its reply completes it, and only there
     reply_completes : Replies st bytes → is_reply (taken_of r.answer) ≡ true
     reply_completes = (d.replies st k bytes r e).1
@@ -344,7 +338,7 @@ module _ (d : Demands) where
     ping_drops_none q = d.no_drops st k bytes r e (λ n number g. let z : ◌≡◌ {A = ℕ} 0 0x83 = sym q ∙ g.byte2 in omega arith)
 
   -- a cancel leaves every battery
-  cancel_keeps_batteries : (st : Station) → Reached st → (device byte2 byte3 : ℕ) (r : CancelResult) → Ensured st (cancel device byte2 byte3) (cancel_step (cancel_outcome r)) → (n : ℕ) → is_port n ≡ true → (port_for r.next n).battery ≡ (port_for st n).battery
+  cancel_keeps_batteries : (st : Station) → Reached st → (device byte2 byte3 : ℕ) (r : CancelCalled) → Ensured st (cancel device byte2 byte3) (cancel_step (cancel_outcome r)) → (n : ℕ) → is_port n ≡ true → (port_for r.next n).battery ≡ (port_for st n).battery
   unfolding begins
   cancel_keeps_batteries st k device byte2 byte3 r e n h =
       d.changes st k (cancel device byte2 byte3) (cancel_step (cancel_outcome r)) e refl n h battery (go (eqb device n))
@@ -354,7 +348,7 @@ module _ (d : Demands) where
       go false = refl
 
   -- what a tick says of a port is what it ended there: what waited waits or is counted
-  tick_counts : (st : Station) → Reached st → (r : TickResult) → Ensured st tick (tick_step (tick_outcome r)) → (n : ℕ) → is_port n ≡ true → waiting_on (port_for r.next n) + ended_in_all n (ending_of n tick (ticked r.ended)) ≡ waiting_on (port_for st n) + 0
+  tick_counts : (st : Station) → Reached st → (r : TickCalled) → Ensured st tick (tick_step (tick_outcome r)) → (n : ℕ) → is_port n ≡ true → waiting_on (port_for r.next n) + ended_in_all n (ending_of n tick (ticked r.ended)) ≡ waiting_on (port_for st n) + 0
   unfolding begins
   tick_counts st k r e n h = (d.counts st k tick (tick_step (tick_outcome r)) e refl n h).balance
 
@@ -363,14 +357,14 @@ module _ (d : Demands) where
   new_begins = d.starts
 
   -- so is one that a store restores, and what follows is a sequence of its own
-  read_begins : (st : Station) (text : List ℕ) (r : RestoreResult) → Ensured st (restore text) (restore_step text (restore_outcome r)) → begins (restore text) ≡ true → Start r.next
+  read_begins : (st : Station) (text : List ℕ) (r : RestoreCalled) → Ensured st (restore text) (restore_step text (restore_outcome r)) → begins (restore text) ≡ true → Start r.next
   read_begins st text r = d.restarts st (restore text) (restore_step text (restore_outcome r))
 
   made_of_sequences : (st : Station) → Start st → (ms : List Made) → History st ms → Sequences st ms
   made_of_sequences = d.sequences
 
   -- a store is read: its ports, and no others
-  module _ (st : Station) (text : List ℕ) (r : RestoreResult) (e : Ensured st (restore text) (restore_step text (restore_outcome r))) where
+  module _ (st : Station) (text : List ℕ) (r : RestoreCalled) (e : Ensured st (restore text) (restore_step text (restore_outcome r))) where
     store_restores : (ports : List Port) → Store text ports → r.next.ports ≡ ports
     store_restores ports s = ap (λ (o : RestoreOutcome). o.station.ports) ((d.stores st text r e ports).1 s)
 
@@ -408,7 +402,7 @@ module _ (d : Demands) where
   begun_restored st c o e = (d.begun st c o e).0
 
   -- a restart: the pads are back, whatever the calls before were
-  pads_back : (st : Station) → Start st → (ms : List Made) → History st ms → AllRead (map call_of ms) → (other : Station) (r : RestoreResult) → Ensured other (restore (store_text (station_after st ms).ports)) (restore_step (store_text (station_after st ms).ports) (restore_outcome r)) → r.next.ports ≡ map stored_of (station_after st ms).ports
+  pads_back : (st : Station) → Start st → (ms : List Made) → History st ms → AllRead (map call_of ms) → (other : Station) (r : RestoreCalled) → Ensured other (restore (store_text (station_after st ms).ports)) (restore_step (store_text (station_after st ms).ports) (restore_outcome r)) → r.next.ports ≡ map stored_of (station_after st ms).ports
   pads_back st begun ms k bytes other r e =
       ap (λ (o : RestoreOutcome). o.station.ports) (d.read_back st begun ms k bytes other r e)
 
@@ -453,7 +447,7 @@ module _ (d : Demands) where
     device_2_accounted = d.accounted 2 refl st begun ms k
 
   -- a radio report is for the device that it names
-  radio_named : (st : Station) (bytes : List ℕ) (r : TakeResult) → Ensured st (take bytes) (take_step bytes (take_outcome r)) → (kind start size : ℕ) → taken_of r.answer ≡ answers.radio kind start size → label_of st (take bytes) ≡ one (byte bytes 1)
+  radio_named : (st : Station) (bytes : List ℕ) (r : TakeCalled) → Ensured st (take bytes) (take_step bytes (take_outcome r)) → (kind start size : ℕ) → taken_of r.answer ≡ answers.radio kind start size → label_of st (take bytes) ≡ one (byte bytes 1)
   radio_named st bytes r e kind start size q =
       d.struck st (take bytes) (take_step bytes (take_outcome r)) e ∙ ap (λ (a : answers.Answer). sentence (take bytes) (taken a)) q
 

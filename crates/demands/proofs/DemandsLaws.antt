@@ -1,9 +1,8 @@
 -- The three demands: the proof.
 use Rattle.std.specs.Prelude.{ℕ, ◌≡◌, ◌↔◌, true, length, List, map}
 use Rattle.std.proofs.Common.{sym, ◌∙◌, ap, subst}
-use Rattle.frame.specs.FrameContracts.{Written}
+use Rattle.frame.specs.FrameContracts.{Written, written_outcome}
 use Rattle.frame.specs.Writing.{WriteAnswer, WriteOutcome, wrote, fits_at, pasted, frame_at}
-use Rattle.frame.specs.FrameContracts.{written_outcome}
 use Rattle.port.specs.Answers.{Answer}
 use Rattle.port.specs.PortContracts.{taken_of}
 use Rattle.store.specs.Stores.{store_text, stored_of, store_rule}
@@ -12,9 +11,7 @@ use Rattle.keeping.specs.Keeping.{Storable, accepted}
 use Rattle.keeping.proofs.KeepingLaws.{keeping}
 use Rattle.station.specs.declared.Station.{Station}
 use Rattle.station.specs.StationCalls.{RestoreOutcome, restored_to, restore_rule}
-use Rattle.station.specs.StationContracts.{TakeResult}
-use Rattle.station.specs.StationContracts.{RestoreResult}
-use Rattle.station.specs.StationContracts.{take_outcome, restore_outcome}
+use Rattle.station.specs.StationContracts.{TakeCalled, RestoreCalled, take_outcome, restore_outcome}
 use Rattle.station.specs.StationTaking.{take_rule}
 use Rattle.sequence.specs.Starts.{Start, fresh}
 use Rattle.sequence.specs.Steps as steps
@@ -76,7 +73,7 @@ same_taken : {a b : Answer} → steps.taken a ≡ steps.taken b → a ≡ b
 same_taken e = cc
 
 -- a take by its contract
-taken : (st : Station) → Reached st → (bytes : List ℕ) (r : TakeResult) → Ensured st (take bytes) (take_step bytes (take_outcome r)) → Completion st bytes (taken_of r.answer) r.next
+taken : (st : Station) → Reached st → (bytes : List ℕ) (r : TakeCalled) → Ensured st (take bytes) (take_step bytes (take_outcome r)) → Completion st bytes (taken_of r.answer) r.next
 unfolding step
 taken st k bytes r e =
     let m = histories.met e in
@@ -86,7 +83,7 @@ same_restoring : {a b : RestoreAnswer} → steps.restoring a ≡ steps.restoring
 same_restoring e = cc
 
 -- a read by its contract
-read_by : (st : Station) (text : List ℕ) (r : RestoreResult) → Ensured st (restore text) (restore_step text (restore_outcome r)) → restore_outcome r ≡ restored_to (restore_ports st.ports text)
+read_by : (st : Station) (text : List ℕ) (r : RestoreCalled) → Ensured st (restore text) (restore_step text (restore_outcome r)) → restore_outcome r ≡ restored_to (restore_ports st.ports text)
 unfolding step restore_rule
 read_by st text r e =
     let m = histories.met e in
@@ -109,7 +106,7 @@ wrote_by st offset lent r after e fits =
     let is : written_outcome r after ≡ frame_at (store_text st.ports) offset lent = λ i. record { answer = same_written (ap (λ (o : Outcome). o.answer) m) i; lent = ap (λ (o : Outcome). o.lent) m i } in
     is ∙ simp fits
 
-came_back : (st : Station) → Start st → (ms : List Made) → History st ms → AllRead (map call_of ms) → (other : Station) (r : RestoreResult) → Ensured other (restore (store_text (station_after st ms).ports)) (restore_step (store_text (station_after st ms).ports) (restore_outcome r)) → restore_outcome r ≡ restored_to (accepted (map stored_of (station_after st ms).ports))
+came_back : (st : Station) → Start st → (ms : List Made) → History st ms → AllRead (map call_of ms) → (other : Station) (r : RestoreCalled) → Ensured other (restore (store_text (station_after st ms).ports)) (restore_step (store_text (station_after st ms).ports) (restore_outcome r)) → restore_outcome r ≡ restored_to (accepted (map stored_of (station_after st ms).ports))
 unfolding restore_ports
 came_back st begun ms k bytes other r e =
     let end : station_after st ms ≡ run st (map call_of ms) = (histories.history st ms k).station in

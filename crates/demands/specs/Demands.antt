@@ -4,9 +4,8 @@ use Rattle.std.specs.Borrow.{Bor, MutBor}
 use Rattle.report.specs.Ports.{is_device, is_port}
 use Rattle.report.specs.Sizes.{byte, hidpp_start}
 use Rattle.report.specs.Reading.{report_from, read_rule}
-use Rattle.frame.specs.FrameContracts.{Written}
+use Rattle.frame.specs.FrameContracts.{Written, written_outcome}
 use Rattle.frame.specs.Writing.{WriteOutcome, wrote, fits_at, pasted}
-use Rattle.frame.specs.FrameContracts.{written_outcome}
 use Rattle.restore.specs.Restoring.{restored}
 use Rattle.port.specs.Records.{empty_place, request_in}
 use Rattle.port.specs.Places.{is_empty}
@@ -20,10 +19,8 @@ use Rattle.store.specs.Stores.{store_text, stored_of, Store}
 use Rattle.keeping.specs.Lines.{OtherEdition, BrokenAt}
 use Rattle.keeping.specs.Keeping.{accepted, refused_other, refused_broken, StoresKept}
 use Rattle.station.specs.declared.Station.{Station}
-use Rattle.station.specs.StationContracts.{TakeResult}
-use Rattle.station.specs.StationContracts.{RestoreResult}
+use Rattle.station.specs.StationContracts.{TakeCalled, RestoreCalled, take_outcome, restore_outcome}
 use Rattle.station.specs.StationCalls.{restored_to}
-use Rattle.station.specs.StationContracts.{take_outcome, restore_outcome}
 use Rattle.station.specs.Stations.{port_count, position_of, port_for}
 use Rattle.station.proofs.Station.new.Reads as new_reads
 use Rattle.sequence.specs.Starts.{Start}
@@ -66,30 +63,30 @@ pub record Demands : Type 0 where
   -- Demand 2. Without a station, reports are read, frames are written and movements are found as the rules say
   pub without_station : WithoutStation
   -- A reply completes a request exactly when one waits on the device that byte 1 names with the same bytes 2 and 3 and, of a ping (byte 2 = 0, function 1), with the same third parameter
-  pub replies : (st : Station) → Reached st → (bytes : List ℕ) (r : TakeResult) → Ensured st (take bytes) (take_step bytes (take_outcome r)) → (is_reply (taken_of r.answer) ≡ true) ↔ Replies st bytes
+  pub replies : (st : Station) → Reached st → (bytes : List ℕ) (r : TakeCalled) → Ensured st (take bytes) (take_step bytes (take_outcome r)) → (is_reply (taken_of r.answer) ≡ true) ↔ Replies st bytes
   -- Where a ping waits there with the same bytes 2 and 3, and its third parameter differs, the report is stray, whatever the version, and changes nothing
-  pub other_pings : (st : Station) → Reached st → (bytes : List ℕ) (r : TakeResult) → Ensured st (take bytes) (take_step bytes (take_outcome r)) → OtherPing st bytes → (taken_of r.answer ≡ carried stray (message_of (report_from hidpp_start bytes) bytes)) × (r.next ≡ st)
+  pub other_pings : (st : Station) → Reached st → (bytes : List ℕ) (r : TakeCalled) → Ensured st (take bytes) (take_step bytes (take_outcome r)) → OtherPing st bytes → (taken_of r.answer ≡ carried stray (message_of (report_from hidpp_start bytes) bytes)) × (r.next ≡ st)
   -- An error, exactly when one waits there with the two bytes that the error names, and its kind fits that request
-  pub errors : (st : Station) → Reached st → (bytes : List ℕ) (r : TakeResult) → Ensured st (take bytes) (take_step bytes (take_outcome r)) → (is_failure (taken_of r.answer) ≡ true) ↔ Fails st bytes
+  pub errors : (st : Station) → Reached st → (bytes : List ℕ) (r : TakeCalled) → Ensured st (take bytes) (take_step bytes (take_outcome r)) → (is_failure (taken_of r.answer) ≡ true) ↔ Fails st bytes
   -- Each ends that one and no other: of every port, the place of the request that it answers is emptied, and every other place stays. DJ reports complete none, and drop all of a port's requests exactly at 0x40, and at 0x41 with another WPID or for a device that is not paired. A reply that gives another serial of a device drops all of that device's requests beside the one that it ends
-  pub ends : (st : Station) → Reached st → (bytes : List ℕ) (r : TakeResult) → Ensured st (take bytes) (take_step bytes (take_outcome r)) → (n : ℕ) → is_port n ≡ true → (place : ℕ) → request_in (port_for r.next n).places place ≡ cond (ends_in st bytes n place) empty_place (request_in (port_for st n).places place)
+  pub ends : (st : Station) → Reached st → (bytes : List ℕ) (r : TakeCalled) → Ensured st (take bytes) (take_step bytes (take_outcome r)) → (n : ℕ) → is_port n ≡ true → (place : ℕ) → request_in (port_for r.next n).places place ≡ cond (ends_in st bytes n place) empty_place (request_in (port_for st n).places place)
   -- A HID++ report ends at most one request on the port that it names, and on another port none but where it gives another serial of that device
   pub at_most_one : (st : Station) → Reached st → (bytes : List ℕ) → is_hidpp_read (read_rule bytes) ≡ true → (i j : ℕ) → ends_in st bytes (byte bytes 1) i ≡ true → ends_in st bytes (byte bytes 1) j ≡ true → i ≡ j
   pub beside : (st : Station) → Reached st → (bytes : List ℕ) → is_hidpp_read (read_rule bytes) ≡ true → (n : ℕ) → is_port n ≡ true → ¬ (byte bytes 1 ≡ n) → (i : ℕ) → (ends_in st bytes n i ≡ true) ↔ (Swaps st bytes n × (is_empty (request_in (port_for st n).places i) ≡ false))
   -- The three searches over waiting places, `port::first_match`, `port::first_empty` and `matching::first_answered`, give the lowest that matches, or none exactly when none does: of any places, two equal ones too and such as no call reaches. What that comes to at a port is in `of_the_rules` (`lowest`)
   pub searches : ProgramSearches
   -- A long reply on port 255 to the request for register B5 that waits with first parameter 0x30 + device − 1, with the same first parameter (`Gives`), gives that device's serial: where the device is paired, the port has it, and where a different one was known, the port is first made fresh but for pairing, WPID and bitfield; the answer counts the requests dropped so
-  pub serials : (st : Station) → Reached st → (bytes : List ℕ) (r : TakeResult) → Ensured st (take bytes) (take_step bytes (take_outcome r)) → is_hidpp_read (read_rule bytes) ≡ true → (n number : ℕ) → Gives (port_for st 255) (report_from hidpp_start bytes) bytes n number → Told (port_for st n) (port_for r.next n) number (taken_of r.answer)
+  pub serials : (st : Station) → Reached st → (bytes : List ℕ) (r : TakeCalled) → Ensured st (take bytes) (take_step bytes (take_outcome r)) → is_hidpp_read (read_rule bytes) ≡ true → (n number : ℕ) → Gives (port_for st 255) (report_from hidpp_start bytes) bytes n number → Told (port_for st n) (port_for r.next n) number (taken_of r.answer)
   -- Every other reply drops none
-  pub no_drops : (st : Station) → Reached st → (bytes : List ℕ) (r : TakeResult) → Ensured st (take bytes) (take_step bytes (take_outcome r)) → ((n number : ℕ) → ¬ Gives (port_for st 255) (report_from hidpp_start bytes) bytes n number) → taken_drops (taken_of r.answer) ≡ 0
+  pub no_drops : (st : Station) → Reached st → (bytes : List ℕ) (r : TakeCalled) → Ensured st (take bytes) (take_step bytes (take_outcome r)) → ((n number : ℕ) → ¬ Gives (port_for st 255) (report_from hidpp_start bytes) bytes n number) → taken_drops (taken_of r.answer) ≡ 0
   -- A store is read as document 02 says: the next station is that of these ports exactly where the text is their store; it is refused with 15 exactly where its first line is that of another edition; and with 16 and a line's number exactly where that line is the first that breaks the rules. A refused read leaves the station
-  pub stores : (st : Station) (text : List ℕ) (r : RestoreResult) → Ensured st (restore text) (restore_step text (restore_outcome r)) → (ports : List Port) → (restore_outcome r ≡ restored_to (accepted ports)) ↔ Store text ports
-  pub other_editions : (st : Station) (text : List ℕ) (r : RestoreResult) → Ensured st (restore text) (restore_step text (restore_outcome r)) → (restore_outcome r ≡ restored_to (refused_other st.ports)) ↔ OtherEdition text
-  pub broken_lines : (st : Station) (text : List ℕ) (r : RestoreResult) → Ensured st (restore text) (restore_step text (restore_outcome r)) → (line : ℕ) → (restore_outcome r ≡ restored_to (refused_broken line st.ports)) ↔ BrokenAt text line
+  pub stores : (st : Station) (text : List ℕ) (r : RestoreCalled) → Ensured st (restore text) (restore_step text (restore_outcome r)) → (ports : List Port) → (restore_outcome r ≡ restored_to (accepted ports)) ↔ Store text ports
+  pub other_editions : (st : Station) (text : List ℕ) (r : RestoreCalled) → Ensured st (restore text) (restore_step text (restore_outcome r)) → (restore_outcome r ≡ restored_to (refused_other st.ports)) ↔ OtherEdition text
+  pub broken_lines : (st : Station) (text : List ℕ) (r : RestoreCalled) → Ensured st (restore text) (restore_step text (restore_outcome r)) → (line : ℕ) → (restore_outcome r ≡ restored_to (refused_broken line st.ports)) ↔ BrokenAt text line
   -- It is written whole at its offset where it fits, and the bytes before and after it keep their values; where it does not, the table of refusals has 10
   pub writes : (st : Station) (offset : ℕ) (lent : List ℕ) (r : Written) (after : List ℕ) → Ensured st (write store offset lent) (write_step st (written_outcome r after)) → fits_at (length (store_text st.ports)) offset (length lent) ≡ true → ◌≡◌ {A = WriteOutcome} (written_outcome r after) (record { answer = wrote (length (store_text st.ports)); lent = pasted (store_text st.ports) offset lent })
   -- Reading what was written after any history whose reports and texts are bytes, on any station, gives back what a store keeps of every port
-  pub read_back : (st : Station) → Start st → (ms : List Made) → History st ms → AllRead (map call_of ms) → (other : Station) (r : RestoreResult) → Ensured other (restore (store_text (station_after st ms).ports)) (restore_step (store_text (station_after st ms).ports) (restore_outcome r)) → restore_outcome r ≡ restored_to (accepted (map stored_of (station_after st ms).ports))
+  pub read_back : (st : Station) → Start st → (ms : List Made) → History st ms → AllRead (map call_of ms) → (other : Station) (r : RestoreCalled) → Ensured other (restore (store_text (station_after st ms).ports)) (restore_step (store_text (station_after st ms).ports) (restore_outcome r)) → restore_outcome r ≡ restored_to (accepted (map stored_of (station_after st ms).ports))
   -- Records change only as documents 01 and 02 list: of every port, by every call, a field that is not listed stays. An accepted read gives every port anew, and so of it neither this nor the next is said
   pub changes : (st : Station) → Reached st → (c : Call) (o : Outcome) → Ensured st c o → begins c ≡ false → (n : ℕ) → is_port n ≡ true → ChangesListed n c o.answer (port_for st 255) (port_for st n) (port_for o.station n)
   -- Each count is that of places emptied: what becomes of every place of every port by every call, and the counts for each way in which a request ends

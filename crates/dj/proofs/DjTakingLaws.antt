@@ -1,17 +1,66 @@
--- A law of taking a DJ report: a radio report that is accepted sets the link, whatever else the port holds.
-use Rattle.std.specs.Prelude.{◌<◌, ◌≡◌, refl, Bool, true, false, cond, ◌&&◌, List, ℕ, ltb}
+-- Laws of taking a DJ report: the checks of a radio report, and that one which is accepted sets the link, whatever else the port holds.
+use Rattle.std.specs.Prelude.{◌<◌, ◌≡◌, refl, Bool, true, false, cond, not, ◌&&◌, List, ℕ, ltb, Option, Some, None, Ok, Err}
+use Rattle.std.specs.Prelude as program
+use Rattle.std.specs.Option.{unwrap_or}
+use Rattle.std.specs.Result.{result_ok}
+use Rattle.std.proofs.lemmas.Option.{cond_some}
 use Rattle.std.proofs.Common.{sym, ◌∙◌, ap, arith}
 use borrow.Author.Tests.{ltb-true, lt-ltb}
 use Rattle.report.proofs.ChoicesLaws.{both}
 use Rattle.report.specs.Sizes.{bit, dj_start}
 use Rattle.report.specs.Radio.{radio_types, payload_length}
 use Rattle.report.specs.Reading.{Report}
+use Rattle.report.specs.Refusals.{not_paired, not_declared, dirty_padding}
 use Rattle.port.specs.declared.Port.{Port}
 use Rattle.port.specs.Records.{with_link}
-use Rattle.port.specs.Answers.{Result, radio}
+use Rattle.port.specs.Answers.{Result, radio, refused}
 use Rattle.dj.specs.Padding.{is_clean}
 use Rattle.dj.specs.DjTaking.{is_declared, radio_answer, radio_rule, take_dj}
-use Rattle.dj.specs.DjContracts.{is_accepted, accepted_length}
+use Rattle.dj.specs.DjContracts.{is_accepted, accepted_length, length_accepted, acceptance}
+
+-- what a radio report answers, by the three checks and the length
+abbrev radio_by : Port → ℕ → program.Result ℕ ℕ → Result
+radio_by port kind (Ok payload) = record { answer = radio kind dj_start payload; port = with_link port true }
+radio_by port kind (Err number) = record { answer = refused number; port = port }
+
+module _ (port : Port) (kind size : ℕ) (bytes : List ℕ) where
+  abbrev checked : program.Result ℕ ℕ
+  checked = acceptance port.paired port.reports kind size bytes
+
+  by_checks : radio_by port kind checked ≡ radio_rule port kind size bytes
+  unfolding acceptance radio_rule
+  by_checks = go port.paired (is_declared port.reports kind) (is_clean kind size bytes)
+    where
+      go : (a b c : Bool) → radio_by port kind (cond (not a) (Err not_paired) (cond (not b) (Err not_declared) (cond (not c) (Err dirty_padding) (Ok (payload_length kind size))))) ≡ cond (not a) (record { answer = refused not_paired; port = port }) (cond (not b) (record { answer = refused not_declared; port = port }) (cond (not c) (record { answer = refused dirty_padding; port = port }) (record { answer = radio_answer kind size; port = with_link port true })))
+      go false b c = refl
+      go true false c = refl
+      go true true false = refl
+      go true true true = refl
+
+  pub radio_accepted : {payload : ℕ} → Ok payload ≡ checked → ◌≡◌ {A = Result} (record { answer = radio kind dj_start payload; port = with_link port true }) (radio_rule port kind size bytes)
+  radio_accepted e = ap (radio_by port kind) e ∙ by_checks
+
+  pub radio_refused : {number : ℕ} → Err number ≡ checked → ◌≡◌ {A = Result} (record { answer = refused number; port = port }) (radio_rule port kind size bytes)
+  radio_refused e = ap (radio_by port kind) e ∙ by_checks
+
+-- the length alone, where the report is accepted
+pub length_checked : (is_paired : Bool) (reports kind size : ℕ) (bytes : List ℕ) → result_ok (acceptance is_paired reports kind size bytes) ≡ length_accepted is_paired reports kind size bytes
+unfolding acceptance
+length_checked is_paired reports kind size bytes = go is_paired (is_declared reports kind) (is_clean kind size bytes)
+  where
+    go : (a b c : Bool) → result_ok (cond (not a) (Err not_paired) (cond (not b) (Err not_declared) (cond (not c) (Err dirty_padding) (Ok (payload_length kind size))))) ≡ cond (a && (b && c)) (Some (payload_length kind size)) None
+    go false b c = refl
+    go true false c = refl
+    go true true false = refl
+    go true true true = refl
+
+-- the number that the rules have for it: 0 where the report is not accepted
+pub length_number : (is_paired : Bool) (reports kind size : ℕ) (bytes : List ℕ) → unwrap_or (length_accepted is_paired reports kind size bytes) 0 ≡ accepted_length is_paired reports kind size bytes
+length_number is_paired reports kind size bytes = go (is_accepted is_paired reports kind size bytes)
+  where
+    go : (b : Bool) → unwrap_or (cond b (Some (payload_length kind size)) None) 0 ≡ cond b (payload_length kind size) 0
+    go true = refl
+    go false = refl
 
 module _ (port : Port) (r : Report) (bytes : List ℕ) where
   abbrev is_taken : Bool
@@ -36,3 +85,9 @@ module _ (port : Port) (r : Report) (bytes : List ℕ) where
           answered : ℕ → Result
           answered n = record { answer = radio r.byte2 dj_start n; port = with_link port true }
       go false q z = absurd (some z)
+
+  -- so is any length that the program gives
+  pub take_accepted_length : (payload : ℕ) → Some payload ≡ length_accepted port.paired port.reports r.byte2 r.size bytes → ◌≡◌ {A = Result} (record { answer = radio r.byte2 dj_start payload; port = with_link port true }) (take_dj port r bytes)
+  take_accepted_length payload e =
+      let h = cond_some is_taken (payload_length r.byte2 r.size) payload (sym e) in
+      ap (λ (n : ℕ). record { answer = radio r.byte2 dj_start n; port = with_link port true }) (sym h.1) ∙ sym (accepted_rule h.0)

@@ -1,33 +1,16 @@
--- Laws of padding: a loop over the bytes, and which offset holds a byte that is not zero.
-use Rattle.std.specs.Prelude.{ℕ, zero, suc, ◌+◌, ◌≤◌, ◌<◌, ◌≡◌, refl, Bool, true, false, ◌&&◌, List, [], ◌∷◌, length, get_or, eqb}
-use Rattle.std.proofs.Common.{sym, ◌∙◌, ap, true≢false, arith, le_of_suc-le-suc, not-suc-le-zero, drop_of_length-le, drop-cons, ne_eqb}
+-- Laws of padding: the library's search over the bytes, and which offset holds a byte that is not zero.
+use Rattle.std.specs.Prelude.{ℕ, zero, suc, ◌≤◌, ◌<◌, ◌≡◌, refl, Bool, true, false, ◌&&◌, List, [], ◌∷◌, length, eqb}
+use Rattle.std.specs.List.{list_all}
+use Rattle.std.proofs.Common.{◌∙◌, ap, true≢false, arith, le_of_suc-le-suc, not-suc-le-zero, ne_eqb}
 use Rattle.std.proofs.Math.Bool.{and-false}
 use Rattle.std.proofs.lemmas.Bool.{eqb-false}
 use Rattle.report.specs.Sizes.{byte}
 use Rattle.dj.specs.Padding.{all_zero, is_zero_from}
 
-module _ (bytes : List ℕ) where
-  -- the loop's state: what is asked of the bytes from the offset on is what is left to ask from i on
-  pub record ZeroUpTo (offset i : ℕ) : Type 0 where
-    pub left : is_zero_from bytes offset ≡ is_zero_from bytes i
-
-  pub zero_begun : (offset : ℕ) → ZeroUpTo offset offset
-  zero_begun offset = record { left = refl }
-
-  here : {i : ℕ} (d : ℕ) → i < length bytes → is_zero_from bytes i ≡ (eqb (get_or bytes i d) 0 && is_zero_from bytes (suc i))
-  here {i} d h = ap all_zero (drop-cons bytes i d h)
-
-  pub zero_more : {offset i : ℕ} (d : ℕ) → ZeroUpTo offset i → i < length bytes → get_or bytes i d ≡ 0 → ZeroUpTo offset (i + 1)
-  zero_more {offset} {i} d s h e =
-      let next : suc i ≡ i + 1 = omega arith in
-      record { left = s.left ∙ here d h ∙ ap (λ (x : ℕ). eqb x 0 && is_zero_from bytes (suc i)) e ∙ ap (is_zero_from bytes) next }
-
-  pub zero_ends : {offset i : ℕ} (d : ℕ) → ZeroUpTo offset i → i < length bytes → ¬ (get_or bytes i d ≡ 0) → false ≡ is_zero_from bytes offset
-  zero_ends {offset} {i} d s h n =
-      sym (s.left ∙ here d h ∙ ap (λ (b : Bool). b && is_zero_from bytes (suc i)) (ne_eqb _ _ n))
-
-  pub zero_out : {offset i : ℕ} → ZeroUpTo offset i → length bytes ≤ i → true ≡ is_zero_from bytes offset
-  zero_out s h = sym (s.left ∙ ap all_zero (drop_of_length-le bytes h))
+-- the library's search for another byte asks the same
+pub all_zero_is : (bytes : List ℕ) → list_all (λ (x : ℕ). eqb x 0) bytes ≡ all_zero bytes
+all_zero_is [] = refl
+all_zero_is (x ∷ xs) = ap (λ (b : Bool). eqb x 0 && b) (all_zero_is xs)
 
 -- a byte that is not zero, from the offset on
 pub not_zero : (bytes : List ℕ) (from offset : ℕ) → from ≤ offset → ¬ (byte bytes offset ≡ 0) → is_zero_from bytes from ≡ false

@@ -5,11 +5,11 @@ ghost use Rattle.std.specs.Prelude.{◌≡◌};
 ghost use Rattle.report.specs.Sizes.{bit};
 ghost use Rattle.report.specs.ReportContracts.{dj_of};
 ghost use Rattle.port.specs.PortContracts.{result_of};
-ghost use Rattle.dj.specs.DjContracts.{accepted_length};
+ghost use Rattle.dj.specs.DjContracts.{acceptance, accepted_of, length_accepted, noticed_by};
 ghost use Rattle.dj.specs.DjTaking.{p, is_declared, radio_rule, unpaired_rule, wpid_of, reports_of, is_paired_with, paired_rule, link_rule, other_rule, take_dj};
 
-use port::Port;
-use port::answer::{Notice, PortTaken, Taken};
+use port::answer::{Notice, Taken};
+use port::{Called, Port};
 use report::{Device, DjReport, Refusal, radio};
 
 pub mod padding;
@@ -18,74 +18,84 @@ pub mod padding;
 fn is_declared(reports: u32, kind: u8) -> bool
     ensures { result ≡ is_declared reports kind }
 {
-    if kind < radio::RADIO_TYPES {
-        return (reports >> kind) % 2 == 1;
-    }
-    false
+    kind < radio::RADIO_TYPES && (reports >> kind) % 2 == 1
 }
 
-// The length of the payload of a radio report with `following` bytes after its type, where it is accepted from a device; else 0.
-pub fn accepted_length(paired: bool, reports: u32, kind: u8, following: u8, bytes: &[u8]) -> u8
-    ensures length { result ≡ accepted_length paired reports kind following bytes.now }
+// The length of the payload of a radio report with `following` bytes after its type, or 7, 8 or 17.
+#[tactic(auto, unfolding(crate::specs::DjContracts::acceptance))]
+fn accept(paired: bool, reports: u32, kind: u8, following: u8, bytes: &[u8]) -> Result<u8, Refusal>
+    ensures { accepted_of result ≡ acceptance paired reports kind following bytes.now }
 {
     if !paired {
-        return 0;
+        return Err(Refusal::NotPaired);
     }
     if !is_declared(reports, kind) {
-        return 0;
-    }
-    let accepted = radio::payload_length(kind, following);
-    if !padding::is_clean(accepted, bytes) {
-        return 0;
-    }
-    accepted
-}
-
-// A radio report with `following` bytes after its type.
-fn take_radio(port: Port, kind: u8, following: u8, bytes: &[u8]) -> PortTaken
-    ensures { result_of result ≡ radio_rule port kind following bytes.now }
-{
-    if !port.paired {
-        return PortTaken {
-            answer: Taken::Refused(Refusal::NotPaired),
-            port,
-        };
-    }
-    if !is_declared(port.reports, kind) {
-        return PortTaken {
-            answer: Taken::Refused(Refusal::NotDeclared),
-            port,
-        };
+        return Err(Refusal::NotDeclared);
     }
     let length = radio::payload_length(kind, following);
     if !padding::is_clean(length, bytes) {
-        return PortTaken {
-            answer: Taken::Refused(Refusal::DirtyPadding),
-            port,
-        };
+        return Err(Refusal::DirtyPadding);
     }
-    PortTaken {
-        answer: Taken::Radio {
-            kind,
-            start: report::DJ_START,
-            length,
+    Ok(length)
+}
+
+// That length, where the report is accepted from a device.
+pub fn accepted_length(
+    paired: bool,
+    reports: u32,
+    kind: u8,
+    following: u8,
+    bytes: &[u8],
+) -> Option<u8>
+    ensures length { result ≡ length_accepted paired reports kind following bytes.now }
+{
+    accept(paired, reports, kind, following, bytes).ok()
+}
+
+// A radio report with `following` bytes after its type.
+fn take_radio(
+    port: Port,
+    kind: u8,
+    following: u8,
+    bytes: &[u8],
+) -> Called<Result<Taken, Refusal>, Port>
+    ensures { result_of result ≡ radio_rule port kind following bytes.now }
+{
+    match accept(port.paired, port.reports, kind, following, bytes) {
+        Ok(length) => Called {
+            answer: Ok(Taken::Radio {
+                kind,
+                start: report::DJ_START,
+                length,
+            }),
+            next: port::with_link(port, true),
         },
-        port: port::with_link(port, true),
+        Err(refusal) => Called {
+            answer: Err(refusal),
+            next: port,
+        },
     }
 }
 
-fn take_unpaired(port: Port, device: Device) -> PortTaken
+// A notice, and the port after it.
+fn noticed(what: Notice, next: Port) -> Called<Result<Taken, Refusal>, Port>
+    ensures { result_of result ≡ noticed_by what next }
+{
+    Called {
+        answer: Ok(Taken::Noticed(what)),
+        next,
+    }
+}
+
+#[tactic(auto, unfolding(crate::specs::DjTaking::unpaired_rule))]
+fn take_unpaired(port: Port, device: Device) -> Called<Result<Taken, Refusal>, Port>
     ensures { result_of result ≡ unpaired_rule port device.0 }
 {
-    let places = port.places;
-    let dropped = port::count_waiting(places);
-    PortTaken {
-        answer: Taken::Noticed(Notice::Unpaired {
-            port: device,
-            dropped,
-        }),
-        port: port::made_fresh(port),
-    }
+    let notice = Notice::Unpaired {
+        port: device,
+        dropped: port::count_waiting(port.places),
+    };
+    noticed(notice, port::made_fresh(port))
 }
 
 // The parameter with this number: p0, p1 and so on.
@@ -117,77 +127,65 @@ fn reports_of(bytes: &[u8]) -> u32
 fn is_paired_with(port: Port, wpid: u16) -> bool
     ensures { result ≡ is_paired_with port wpid }
 {
-    if port.paired {
-        return port.wpid == wpid;
-    }
-    false
+    port.paired && port.wpid == wpid
 }
 
-fn take_paired(port: Port, device: Device, more: bool, wpid: u16, reports: u32) -> PortTaken
+#[tactic(auto, unfolding(crate::specs::DjTaking::paired_rule, port::specs::Records::with_reports))]
+fn take_paired(
+    port: Port,
+    device: Device,
+    more: bool,
+    wpid: u16,
+    reports: u32,
+) -> Called<Result<Taken, Refusal>, Port>
     ensures { result_of result ≡ paired_rule port device.0 more wpid reports }
 {
-    if is_paired_with(port, wpid) {
-        let mut same = port;
-        same.reports = reports;
-        return PortTaken {
-            answer: Taken::Noticed(Notice::Paired {
-                port: device,
-                more,
-                wpid,
-                reports,
-                dropped: 0,
-            }),
-            port: same,
-        };
-    }
-    let places = port.places;
-    let dropped = port::count_waiting(places);
-    PortTaken {
-        answer: Taken::Noticed(Notice::Paired {
-            port: device,
-            more,
-            wpid,
-            reports,
-            dropped,
-        }),
-        port: port::paired_anew(port, wpid, reports),
-    }
+    let (dropped, next) = if is_paired_with(port, wpid) {
+        (0, Port { reports, ..port })
+    } else {
+        let dropped = port::count_waiting(port.places);
+        (dropped, port::paired_anew(port, wpid, reports))
+    };
+    let notice = Notice::Paired {
+        port: device,
+        more,
+        wpid,
+        reports,
+        dropped,
+    };
+    noticed(notice, next)
 }
 
-fn take_link(port: Port, device: Device, up: bool) -> PortTaken
+#[tactic(auto, unfolding(crate::specs::DjTaking::link_rule))]
+fn take_link(port: Port, device: Device, up: bool) -> Called<Result<Taken, Refusal>, Port>
     ensures { result_of result ≡ link_rule port device.0 up }
 {
     if port.paired {
-        return PortTaken {
-            answer: Taken::Noticed(Notice::Link { port: device, up }),
-            port: port::with_link(port, up),
-        };
-    }
-    PortTaken {
-        answer: Taken::Refused(Refusal::NotPaired),
-        port,
+        let notice = Notice::Link { port: device, up };
+        noticed(notice, port::with_link(port, up))
+    } else {
+        Called {
+            answer: Err(Refusal::NotPaired),
+            next: port,
+        }
     }
 }
 
-fn take_other(port: Port, device: Device, kind: u8) -> PortTaken
+#[tactic(auto, unfolding(crate::specs::DjTaking::other_rule))]
+fn take_other(port: Port, device: Device, kind: u8) -> Called<Result<Taken, Refusal>, Port>
     ensures { result_of result ≡ other_rule port device.0 kind }
 {
-    PortTaken {
-        answer: Taken::Noticed(Notice::Other { port: device, kind }),
-        port,
-    }
+    noticed(Notice::Other { port: device, kind }, port)
 }
 
 // Takes the report at its port.
-pub fn take_at(port: Port, d: DjReport, bytes: &[u8]) -> PortTaken
+#[tactic(auto, unfolding(crate::specs::DjTaking::take_dj))]
+pub fn take_at(port: Port, d: DjReport, bytes: &[u8]) -> Called<Result<Taken, Refusal>, Port>
     ensures result { result_of result ≡ take_dj port (dj_of d) bytes.now }
 {
-    let kind = d.kind;
     let device = d.device;
-    if kind < report::DJ_UNPAIRED {
-        return take_radio(port, kind, d.length, bytes);
-    }
-    match kind {
+    match d.kind {
+        ..report::DJ_UNPAIRED => take_radio(port, d.kind, d.length, bytes),
         report::DJ_UNPAIRED => take_unpaired(port, device),
         report::DJ_PAIRED => {
             take_paired(
@@ -199,6 +197,6 @@ pub fn take_at(port: Port, d: DjReport, bytes: &[u8]) -> PortTaken
             )
         }
         report::DJ_CONNECTION => take_link(port, device, !has_bit_0(bytes)),
-        _ => take_other(port, device, kind),
+        kind => take_other(port, device, kind),
     }
 }

@@ -6,14 +6,7 @@ ghost use Rattle.dj.specs.Padding.{is_zero_from, is_clean_after};
 pub fn is_zero_from(bytes: &[u8], offset: usize) -> bool
     ensures zero { result ≡ is_zero_from bytes.now offset }
 {
-    let mut i = offset;
-    while i < bytes.len() {
-        if bytes[i] != 0 {
-            return false;
-        }
-        i += 1;
-    }
-    true
+    bytes.iter().skip(offset).all(|byte| *byte == 0)
 }
 
 // Whether nothing but zeros is behind a payload of this length.

@@ -57,18 +57,18 @@ run_number NoRoom = no_room
 run_number Malformed = malformed_calls
 
 -- what a run of the program gives
-abbrev pub RunResult : Type 0
-RunResult = Called (Result ℕ RunRefusal) Station
+abbrev pub RunCalled : Type 0
+RunCalled = Called (Result ℕ RunRefusal) Station
 
 abbrev pub ran_of : Result ℕ RunRefusal → RunAnswer
 ran_of (Err refusal) = refused (run_number refusal)
 ran_of (Ok bytes) = done bytes
 
-abbrev pub outcome_of : RunResult → List ℕ → List ℕ → EncodedOutcome
+abbrev pub outcome_of : RunCalled → List ℕ → List ℕ → EncodedOutcome
 outcome_of r arena answers = record { answer = ran_of r.answer; station = r.next; arena = arena; answers = answers }
 
 -- a run is the rule
-abbrev pub EncodedPromise : Station → List ℕ → List ℕ → List ℕ → RunResult → List ℕ → List ℕ → Type 0
+abbrev pub EncodedPromise : Station → List ℕ → List ℕ → List ℕ → RunCalled → List ℕ → List ℕ → Type 0
 EncodedPromise st encoded arena answers r arena_after answers_after =
     outcome_of r arena_after answers_after ≡ encoded_rule st encoded arena answers
 

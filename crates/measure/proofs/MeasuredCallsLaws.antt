@@ -4,19 +4,14 @@ use Rattle.std.proofs.Common.{sym, ◌∙◌, arith, add-one}
 use Rattle.std.proofs.Math.Path.{ap}
 use borrow.Author.Tests.{ne_eqb}
 use Rattle.report.specs.Sizes.{byte}
-use Rattle.frame.specs.FrameContracts.{Written}
+use Rattle.frame.specs.FrameContracts.{Written, written_of}
 use Rattle.station.specs.declared.Station.{Station}
-use Rattle.station.specs.StationContracts.{TakeResult}
-use Rattle.station.specs.StationContracts.{RequestResult}
-use Rattle.station.specs.StationContracts.{CancelResult}
-use Rattle.station.specs.StationContracts.{TickResult}
-use Rattle.station.specs.StationContracts.{RestoreResult}
+use Rattle.station.specs.StationContracts.{TakeCalled, RequestCalled, CancelCalled, TickCalled, RestoreCalled}
 use Rattle.station.specs.Stations.{fresh_station}
 use Rattle.station.specs.StationPromises.{TakePromise, RequestPromise, CancelPromise, TickPromise, ListPromise, StorePromise, RestorePromise}
 use Rattle.measure.specs.Weights.{take_weight, write_weight, cancel_weight, tick_weight, restore_weight}
 use Rattle.measure.specs.MeasuredCalls.{call_head_size, room_size, call_size, call_byte, lent_at, Course, added, measured_take, measured_request, measured_cancel, measured_tick, measured_text, measured_restore, measured_call, after, measured_in, measured, measured_by}
 use Rattle.port.specs.PortContracts.{taken_of, cancel_of}
-use Rattle.frame.specs.FrameContracts.{written_of}
 use Rattle.restore.specs.RestoreContracts.{restored_of}
 
 abbrev pub course : ℕ → Station → List ℕ → Course
@@ -30,19 +25,19 @@ lent_part calls at =
 
 -- one turn, by the kind of its call
 module _ (calls text : List ℕ) (sum : ℕ) (s : Station) (lent : List ℕ) (at : ℕ) {next w : ℕ} (a : next ≡ added sum w) where
-  pub take_turn : (t : TakeResult) {bytes : List ℕ} → byte calls at ≡ 0 → bytes ≡ lent_at calls at → TakePromise s bytes t → w ≡ take_weight (taken_of t.answer) → course next t.next lent ≡ measured_call (course sum s lent) calls text at
+  pub take_turn : (t : TakeCalled) {bytes : List ℕ} → byte calls at ≡ 0 → bytes ≡ lent_at calls at → TakePromise s bytes t → w ≡ take_weight (taken_of t.answer) → course next t.next lent ≡ measured_call (course sum s lent) calls text at
   unfolding measured_call
   take_turn t {bytes} k b p e = simp (k, ← b) (ap (λ (n : ℕ). course n t.next lent) (a ∙ ap (added sum) e) ∙ ap (measured_take (course sum s lent)) p)
 
-  pub request_turn : (r : RequestResult) {after params : List ℕ} {ticks : ℕ} → byte calls at ≡ 1 → params ≡ lent_at calls at → ticks ≡ call_byte calls at 5 → RequestPromise s (call_byte calls at 2) (call_byte calls at 3) (call_byte calls at 4) ticks params 0 lent r after → w ≡ write_weight (written_of r.answer) → course next r.next after ≡ measured_call (course sum s lent) calls text at
+  pub request_turn : (r : RequestCalled) {after params : List ℕ} {ticks : ℕ} → byte calls at ≡ 1 → params ≡ lent_at calls at → ticks ≡ call_byte calls at 5 → RequestPromise s (call_byte calls at 2) (call_byte calls at 3) (call_byte calls at 4) ticks params 0 lent r after → w ≡ write_weight (written_of r.answer) → course next r.next after ≡ measured_call (course sum s lent) calls text at
   unfolding measured_call
   request_turn r {after} k b q p e = simp (k, ← b, ← q) (ap (λ (n : ℕ). course n r.next after) (a ∙ ap (added sum) e) ∙ ap (measured_request (course sum s lent)) p)
 
-  pub cancel_turn : (r : CancelResult) → byte calls at ≡ 2 → CancelPromise s (call_byte calls at 2) (call_byte calls at 3) (call_byte calls at 4) r → w ≡ cancel_weight (cancel_of r.answer) → course next r.next lent ≡ measured_call (course sum s lent) calls text at
+  pub cancel_turn : (r : CancelCalled) → byte calls at ≡ 2 → CancelPromise s (call_byte calls at 2) (call_byte calls at 3) (call_byte calls at 4) r → w ≡ cancel_weight (cancel_of r.answer) → course next r.next lent ≡ measured_call (course sum s lent) calls text at
   unfolding measured_call
   cancel_turn r k p e = simp k (ap (λ (n : ℕ). course n r.next lent) (a ∙ ap (added sum) e) ∙ ap (measured_cancel (course sum s lent)) p)
 
-  pub tick_turn : (r : TickResult) → byte calls at ≡ 3 → TickPromise s r → w ≡ tick_weight r.answer → course next r.next lent ≡ measured_call (course sum s lent) calls text at
+  pub tick_turn : (r : TickCalled) → byte calls at ≡ 3 → TickPromise s r → w ≡ tick_weight r.answer → course next r.next lent ≡ measured_call (course sum s lent) calls text at
   unfolding measured_call
   tick_turn r k p e = simp k (ap (λ (n : ℕ). course n r.next lent) (a ∙ ap (added sum) e) ∙ ap (measured_tick (course sum s lent)) p)
 
@@ -50,7 +45,7 @@ module _ (calls text : List ℕ) (sum : ℕ) (s : Station) (lent : List ℕ) (at
   unfolding measured_call
   store_turn r {after} k p e = simp k (ap (λ (n : ℕ). course n s after) (a ∙ ap (added sum) e) ∙ ap (measured_text (course sum s lent)) p)
 
-  pub restore_turn : (r : RestoreResult) → byte calls at ≡ 6 → RestorePromise s text r → w ≡ restore_weight (restored_of r.answer) → course next r.next lent ≡ measured_call (course sum s lent) calls text at
+  pub restore_turn : (r : RestoreCalled) → byte calls at ≡ 6 → RestorePromise s text r → w ≡ restore_weight (restored_of r.answer) → course next r.next lent ≡ measured_call (course sum s lent) calls text at
   unfolding measured_call
   restore_turn r k p e = simp k (ap (λ (n : ℕ). course n r.next lent) (a ∙ ap (added sum) e) ∙ ap (measured_restore (course sum s lent)) p)
 

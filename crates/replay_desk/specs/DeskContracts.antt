@@ -1,8 +1,7 @@
 -- Helpers of contracts: the program's answers, in the terms of the rules.
 use Rattle.std.specs.Prelude.{ℕ, ◌+◌, ◌≡◌, List, length}
 use Rattle.frame.specs.Writing.{pasted}
-use Rattle.frame.specs.FrameContracts.{written_of}
-use Rattle.frame.specs.FrameContracts.{Written}
+use Rattle.frame.specs.FrameContracts.{written_of, Written}
 use Rattle.frame.specs.declared.Written.TheVariants.{Refused, Bytes}
 use Rattle.text.specs.Putting.{filled}
 use Rattle.station.specs.StationCalls.{RequestOutcome}

@@ -7,8 +7,7 @@ use Rattle.std.proofs.Math.Seq.{take-length}
 use borrow.Author.Tests.{le-leb, lt-leb}
 use Rattle.replay_script.specs.Finding.{index_of, index_after, slice}
 use Rattle.frame.specs.Writing as writing
-use Rattle.frame.specs.FrameContracts.{written_of}
-use Rattle.frame.specs.FrameContracts.{Written}
+use Rattle.frame.specs.FrameContracts.{written_of, Written}
 use Rattle.frame.specs.declared.Written.TheVariants.{Refused, Bytes}
 use Rattle.report.specs.declared.Refusal.{Refusal}
 use Rattle.station.specs.declared.Station.{Station}

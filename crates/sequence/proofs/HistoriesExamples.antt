@@ -1,21 +1,14 @@
 -- Document 01, "Sequences of calls", of the program: what each function was proved to ensure makes its call one of a history, and a history of one call.
-use Rattle.std.specs.Prelude.{ℕ, refl, List, [], ◌∷◌}
+use Rattle.std.specs.Prelude.{ℕ, refl, List, [], ◌∷◌, Err}
 use Rattle.report.specs.declared.Device.{Device}
 use Rattle.report.specs.declared.FeatureIndex.{FeatureIndex}
 use Rattle.report.specs.declared.Refusal.TheVariants.{EmptyReport}
 use Rattle.report.specs.Reading.{read_rule}
-use Rattle.frame.specs.FrameContracts.{Written}
-use Rattle.frame.specs.FrameContracts.{written_outcome}
-use Rattle.port.specs.declared.answer.Taken.TheVariants.{Refused}
+use Rattle.frame.specs.FrameContracts.{Written, written_outcome}
 use Rattle.station.specs.declared.Station.{Station}
-use Rattle.station.specs.StationContracts.{TakeResult}
-use Rattle.station.specs.StationContracts.{RequestResult}
-use Rattle.station.specs.StationContracts.{CancelResult}
-use Rattle.station.specs.StationContracts.{TickResult}
-use Rattle.station.specs.StationContracts.{RestoreResult}
+use Rattle.station.specs.StationContracts.{TakeCalled, RequestCalled, CancelCalled, TickCalled, RestoreCalled, take_outcome, request_outcome, cancel_outcome, tick_outcome, restore_outcome}
 use Rattle.station.specs.Stations.{fresh_station}
 use Rattle.station.specs.StationTaking.{take_by, take_rule}
-use Rattle.station.specs.StationContracts.{take_outcome, request_outcome, cancel_outcome, tick_outcome, restore_outcome}
 use Rattle.station.proofs.Station.take.Reads as take_reads
 use Rattle.station.proofs.Station.request.Reads as request_reads
 use Rattle.station.proofs.Station.cancel.Reads as cancel_reads
@@ -31,16 +24,16 @@ use Rattle.sequence.specs.Histories.{LentBytes, LentBuffer, Ensured, by_take, by
 
 -- each of the ten calls, with any arguments, result and lent bytes of which its contract holds
 record EachCall : Type 0 where
-  of_take : (κ : List ℕ) (st : Station) (bytes : LentBytes) (r : TakeResult) → take_reads.Learnt (κ, tt) (st, (bytes, tt)) r (st, (bytes, tt)) → Ensured st (take bytes.now) (take_step bytes.now (take_outcome r))
-  of_request : (κ κ' : List ℕ) (st : Station) (device : Device) (byte2 : FeatureIndex) (byte3 ticks : ℕ) (params : LentBytes) (buffer after : LentBuffer) (offset : ℕ) (r : RequestResult) → request_reads.Learnt (κ, (κ', tt)) (st, (device, (byte2, (byte3, (ticks, (params, (buffer, (offset, tt)))))))) r (st, (device, (byte2, (byte3, (ticks, (params, (after, (offset, tt)))))))) → Ensured st (request device.0 byte2.0 byte3 ticks params.now offset buffer.now) (request_step params.now (request_outcome r after.now))
-  of_cancel : (st : Station) (device : Device) (byte2 : FeatureIndex) (byte3 : ℕ) (r : CancelResult) → cancel_reads.Learnt tt (st, (device, (byte2, (byte3, tt)))) r (st, (device, (byte2, (byte3, tt)))) → Ensured st (cancel device.0 byte2.0 byte3) (cancel_step (cancel_outcome r))
-  of_tick : (st : Station) (r : TickResult) → tick_reads.Learnt tt (st, tt) r (st, tt) → Ensured st tick (tick_step (tick_outcome r))
+  of_take : (κ : List ℕ) (st : Station) (bytes : LentBytes) (r : TakeCalled) → take_reads.Learnt (κ, tt) (st, (bytes, tt)) r (st, (bytes, tt)) → Ensured st (take bytes.now) (take_step bytes.now (take_outcome r))
+  of_request : (κ κ' : List ℕ) (st : Station) (device : Device) (byte2 : FeatureIndex) (byte3 ticks : ℕ) (params : LentBytes) (buffer after : LentBuffer) (offset : ℕ) (r : RequestCalled) → request_reads.Learnt (κ, (κ', tt)) (st, (device, (byte2, (byte3, (ticks, (params, (buffer, (offset, tt)))))))) r (st, (device, (byte2, (byte3, (ticks, (params, (after, (offset, tt)))))))) → Ensured st (request device.0 byte2.0 byte3 ticks params.now offset buffer.now) (request_step params.now (request_outcome r after.now))
+  of_cancel : (st : Station) (device : Device) (byte2 : FeatureIndex) (byte3 : ℕ) (r : CancelCalled) → cancel_reads.Learnt tt (st, (device, (byte2, (byte3, tt)))) r (st, (device, (byte2, (byte3, tt)))) → Ensured st (cancel device.0 byte2.0 byte3) (cancel_step (cancel_outcome r))
+  of_tick : (st : Station) (r : TickCalled) → tick_reads.Learnt tt (st, tt) r (st, tt) → Ensured st tick (tick_step (tick_outcome r))
   of_switch : (κ : List ℕ) (st : Station) (bits timeout : ℕ) (buffer after : LentBuffer) (offset : ℕ) (r : Written) → switch_reads.Learnt (κ, tt) (st, (bits, (timeout, (buffer, (offset, tt))))) r (st, (bits, (timeout, (after, (offset, tt))))) → Ensured st (write (switch bits timeout) offset buffer.now) (write_step st (written_outcome r after.now))
   of_get_paired : (κ : List ℕ) (st : Station) (buffer after : LentBuffer) (offset : ℕ) (r : Written) → get_paired_reads.Learnt (κ, tt) (st, (buffer, (offset, tt))) r (st, (after, (offset, tt))) → Ensured st (write get_paired offset buffer.now) (write_step st (written_outcome r after.now))
   of_led : (κ : List ℕ) (st : Station) (device : Device) (leds : ℕ) (buffer after : LentBuffer) (offset : ℕ) (r : Written) → led_reads.Learnt (κ, tt) (st, (device, (leds, (buffer, (offset, tt))))) r (st, (device, (leds, (after, (offset, tt))))) → Ensured st (write (led device.0 leds) offset buffer.now) (write_step st (written_outcome r after.now))
   of_list : (κ : List ℕ) (st : Station) (buffer after : LentBuffer) (offset : ℕ) (r : Written) → list_reads.Learnt (κ, tt) (st, (buffer, (offset, tt))) r (st, (after, (offset, tt))) → Ensured st (write list offset buffer.now) (write_step st (written_outcome r after.now))
   of_store : (κ : List ℕ) (st : Station) (buffer after : LentBuffer) (offset : ℕ) (r : Written) → store_reads.Learnt (κ, tt) (st, (buffer, (offset, tt))) r (st, (after, (offset, tt))) → Ensured st (write store offset buffer.now) (write_step st (written_outcome r after.now))
-  of_restore : (κ : List ℕ) (st : Station) (text : LentBytes) (r : RestoreResult) → restore_reads.Learnt (κ, tt) (st, (text, tt)) r (st, (text, tt)) → Ensured st (restore text.now) (restore_step text.now (restore_outcome r))
+  of_restore : (κ : List ℕ) (st : Station) (text : LentBytes) (r : RestoreCalled) → restore_reads.Learnt (κ, tt) (st, (text, tt)) r (st, (text, tt)) → Ensured st (restore text.now) (restore_step text.now (restore_outcome r))
 
 each_call : EachCall
 each_call =
@@ -61,8 +54,8 @@ each_call =
 nothing_lent : LentBytes
 nothing_lent = record { ref_ptr = (0, 0); now = [] }
 
-refused_empty : TakeResult
-refused_empty = record { answer = Refused EmptyReport; station = fresh_station }
+refused_empty : TakeCalled
+refused_empty = record { answer = Err EmptyReport; next = fresh_station }
 
 one_call : Made
 one_call = record { call = take []; outcome = take_step [] (take_outcome refused_empty) }

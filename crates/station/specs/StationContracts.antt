@@ -18,8 +18,8 @@ TakeResult = Called (Result Taken Refusal) Station
 abbrev pub RequestResult : Type 0
 RequestResult = Called Written Station
 
-abbrev pub CancelResult : Type 0
-CancelResult = Called (Result (Unit {0}) Refusal) Station
+abbrev pub CancelCalled : Type 0
+CancelCalled = Called (Result (Unit {0}) Refusal) Station
 
 abbrev pub TickResult : Type 0
 TickResult = Called (List ℕ) Station
@@ -33,7 +33,7 @@ take_outcome r = record { answer = taken_of r.answer; station = r.next }
 abbrev pub request_outcome : RequestResult → List ℕ → RequestOutcome
 request_outcome r lent = record { answer = written_of r.answer; station = r.next; lent = lent }
 
-abbrev pub cancel_outcome : CancelResult → CancelOutcome
+abbrev pub cancel_outcome : CancelCalled → CancelOutcome
 cancel_outcome r = record { answer = cancel_of r.answer; station = r.next }
 
 abbrev pub tick_outcome : TickResult → TickOutcome

@@ -1,23 +1,16 @@
 -- `dj::accepted_length` meets its contract.
-use mathlib.Core.Path.{sym, ◌∙◌}
+use Rattle.std.proofs.Common.{◌∙◌, ap, ℕ, Result, Ok, Err, refl, ◌≡◌}
+use Rattle.report.specs.declared.Refusal.{Refusal}
+use Rattle.std.specs.Result.{result_ok}
+use Rattle.dj.specs.DjContracts.{accepted_of}
+use Rattle.dj.proofs.DjTakingLaws.{length_checked}
 use Rattle.dj.proofs.accepted_length.Goals as goal
 
-pub returns-then-not-paired : goal.returns-then-not-paired
-returns-then-not-paired c = record {
-  length = simp (c.if-not-paired.true);
-}
-
-pub returns-then-not-is_declared : goal.returns-then-not-is_declared
-returns-then-not-is_declared c = record {
-  length = simp (c.if-not-paired.false, sym c.is_declared.ensures ∙ c.if-not-is_declared.true);
-}
-
-pub returns-then-not-is_clean : goal.returns-then-not-is_clean
-returns-then-not-is_clean c = record {
-  length = simp (c.if-not-paired.false, sym c.is_declared.ensures ∙ c.if-not-is_declared.false, ← c.payload_length-accepted.ensures.length, sym c.is_clean.ensures.clean ∙ c.if-not-is_clean.true);
-}
+same_length : (r : Result ℕ Refusal) → result_ok r ≡ result_ok (accepted_of r)
+same_length (Ok length) = refl
+same_length (Err refusal) = refl
 
 pub returns : goal.returns
 returns c = record {
-  length = simp (c.if-not-paired.false, sym c.is_declared.ensures ∙ c.if-not-is_declared.false, ← c.payload_length-accepted.ensures.length, sym c.is_clean.ensures.clean ∙ c.if-not-is_clean.false);
+  length = c.ok.ensures.value ∙ same_length c.accept.result ∙ ap result_ok c.accept.ensures ∙ length_checked c.args.paired c.args.reports c.args.kind c.args.following c.args.bytes.now;
 }

@@ -2,11 +2,10 @@
 use Prim.Native.Nat.{ℕ}
 use mathlib.Core.Path.{sym, ap}
 use native.Mathlib.Omega.{arith}
-use Rattle.frame.specs.FrameContracts.{Written}
+use Rattle.frame.specs.FrameContracts.{Written, written_of}
 use Rattle.text.specs.Words.{ascii}
 use Rattle.text.proofs.PuttingLaws.{at_most, same_text}
 use Rattle.replay_render.specs.AnswerLines.{outcome_text, written_text}
-use Rattle.frame.specs.FrameContracts.{written_of}
 use Rattle.replay_render.proofs.put_written_line.Goals as goal
 
 pub returns-in-Refused : goal.returns-in-Refused

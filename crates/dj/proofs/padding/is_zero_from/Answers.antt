@@ -1,19 +1,13 @@
--- `dj::padding::is_zero_from` meets its contract: the loop has passed zeros alone.
-use Rattle.dj.proofs.PaddingLaws.{zero_begun, zero_more, zero_ends, zero_out}
+-- `dj::padding::is_zero_from` meets its contract.
+use Rattle.std.proofs.Common.{◌∙◌, ℕ, eqb, rules, tests, drop}
+use Rattle.std.proofs.lemmas.Iterator.{YieldsList-from_slice}
+use Rattle.std.proofs.lemmas.Iterator.Consumers.{YieldsList-at}
+use Rattle.std.proofs.lemmas.Iterator.Adapters.{YieldsList-from_skip}
+use Rattle.std.proofs.lemmas.Iterator.Search.{all_from_yields_List}
+use Rattle.dj.proofs.PaddingLaws.{all_zero_is}
 use Rattle.dj.proofs.padding.is_zero_from.Goals as goal
-
-pub loop-i-init : goal.loop-i-init
-loop-i-init c = zero_begun _ _
-
-pub returns-then-bytes-i-ne0 : goal.returns-then-bytes-i-ne0
-returns-then-bytes-i-ne0 c = record {
-  zero = zero_ends _ _ c.loop-i.invariant c.loop-i-test.true c.if-bytes-i-ne0.true;
-}
-
-pub loop-i-preserved : goal.loop-i-preserved
-loop-i-preserved c = zero_more _ _ c.loop-i.invariant c.loop-i-test.true c.if-bytes-i-ne0.false
 
 pub returns : goal.returns
 returns c = record {
-  zero = zero_out _ c.loop-i.invariant c.loop-i-test.false;
+  zero = all_from_yields_List (λ (x : ℕ). eqb x 0) _ _ c.all.result c.all.ensures.ran (YieldsList-from_skip c.args.offset (YieldsList-at c.skip.ensures.source (YieldsList-from_slice c.args.bytes.now cc)) c.skip.ensures.count) (λ x b q k. search (rules, tests)) ∙ all_zero_is (drop c.args.offset c.args.bytes.now);
 }
