@@ -1,6 +1,5 @@
--- Laws of taking a DJ report: the checks of a radio report, and that one which is accepted sets the link, whatever else the port holds.
-use Rattle.std.specs.Prelude.{◌<◌, ◌≡◌, refl, Bool, true, false, cond, not, ◌&&◌, List, ℕ, ltb, Option, Some, None, Ok, Err}
-use Rattle.std.specs.Prelude as program
+-- Laws of taking a DJ report: the length of a radio report that is accepted, and that it sets the link, whatever else the port holds.
+use Rattle.std.specs.Prelude.{◌<◌, ◌≡◌, refl, Bool, true, false, cond, not, ◌&&◌, List, ℕ, ltb, Some, None, Ok, Err}
 use Rattle.std.specs.Option.{unwrap_or}
 use Rattle.std.specs.Result.{result_ok}
 use Rattle.std.proofs.lemmas.Option.{cond_some}
@@ -13,35 +12,10 @@ use Rattle.report.specs.Reading.{Report}
 use Rattle.report.specs.Refusals.{not_paired, not_declared, dirty_padding}
 use Rattle.port.specs.declared.Port.{Port}
 use Rattle.port.specs.Records.{with_link}
-use Rattle.port.specs.Answers.{Result, radio, refused}
+use Rattle.port.specs.Answers.{Result, radio}
 use Rattle.dj.specs.Padding.{is_clean}
 use Rattle.dj.specs.DjTaking.{is_declared, radio_answer, radio_rule, take_dj}
 use Rattle.dj.specs.DjContracts.{is_accepted, accepted_length, length_accepted, acceptance}
-
--- what a radio report answers, by the three checks and the length
-abbrev radio_by : Port → ℕ → program.Result ℕ ℕ → Result
-radio_by port kind (Ok payload) = record { answer = radio kind dj_start payload; port = with_link port true }
-radio_by port kind (Err number) = record { answer = refused number; port = port }
-
-module _ (port : Port) (kind size : ℕ) (bytes : List ℕ) where
-  abbrev checked : program.Result ℕ ℕ
-  checked = acceptance port.paired port.reports kind size bytes
-
-  by_checks : radio_by port kind checked ≡ radio_rule port kind size bytes
-  unfolding acceptance radio_rule
-  by_checks = go port.paired (is_declared port.reports kind) (is_clean kind size bytes)
-    where
-      go : (a b c : Bool) → radio_by port kind (cond (not a) (Err not_paired) (cond (not b) (Err not_declared) (cond (not c) (Err dirty_padding) (Ok (payload_length kind size))))) ≡ cond (not a) (record { answer = refused not_paired; port = port }) (cond (not b) (record { answer = refused not_declared; port = port }) (cond (not c) (record { answer = refused dirty_padding; port = port }) (record { answer = radio_answer kind size; port = with_link port true })))
-      go false b c = refl
-      go true false c = refl
-      go true true false = refl
-      go true true true = refl
-
-  pub radio_accepted : {payload : ℕ} → Ok payload ≡ checked → ◌≡◌ {A = Result} (record { answer = radio kind dj_start payload; port = with_link port true }) (radio_rule port kind size bytes)
-  radio_accepted e = ap (radio_by port kind) e ∙ by_checks
-
-  pub radio_refused : {number : ℕ} → Err number ≡ checked → ◌≡◌ {A = Result} (record { answer = refused number; port = port }) (radio_rule port kind size bytes)
-  radio_refused e = ap (radio_by port kind) e ∙ by_checks
 
 -- the length alone, where the report is accepted
 pub length_checked : (is_paired : Bool) (reports kind size : ℕ) (bytes : List ℕ) → result_ok (acceptance is_paired reports kind size bytes) ≡ length_accepted is_paired reports kind size bytes
