@@ -12,32 +12,32 @@ use Rattle.station.specs.StationTaking.{TakeOutcome}
 use Rattle.station.specs.StationCalls.{RequestOutcome, CancelOutcome, TickOutcome, RestoreOutcome}
 
 -- what each call of the program that changes the station gives: its answer, and the next station
-abbrev pub TakeResult : Type 0
-TakeResult = Called (Result Taken Refusal) Station
+abbrev pub TakeCalled : Type 0
+TakeCalled = Called (Result Taken Refusal) Station
 
-abbrev pub RequestResult : Type 0
-RequestResult = Called Written Station
+abbrev pub RequestCalled : Type 0
+RequestCalled = Called Written Station
 
 abbrev pub CancelCalled : Type 0
 CancelCalled = Called (Result (Unit {0}) Refusal) Station
 
-abbrev pub TickResult : Type 0
-TickResult = Called (List ℕ) Station
+abbrev pub TickCalled : Type 0
+TickCalled = Called (List ℕ) Station
 
-abbrev pub RestoreResult : Type 0
-RestoreResult = Called (Result (Unit {0}) NotRestored) Station
+abbrev pub RestoreCalled : Type 0
+RestoreCalled = Called (Result (Unit {0}) NotRestored) Station
 
-abbrev pub take_outcome : TakeResult → TakeOutcome
+abbrev pub take_outcome : TakeCalled → TakeOutcome
 take_outcome r = record { answer = taken_of r.answer; station = r.next }
 
-abbrev pub request_outcome : RequestResult → List ℕ → RequestOutcome
+abbrev pub request_outcome : RequestCalled → List ℕ → RequestOutcome
 request_outcome r lent = record { answer = written_of r.answer; station = r.next; lent = lent }
 
 abbrev pub cancel_outcome : CancelCalled → CancelOutcome
 cancel_outcome r = record { answer = cancel_of r.answer; station = r.next }
 
-abbrev pub tick_outcome : TickResult → TickOutcome
+abbrev pub tick_outcome : TickCalled → TickOutcome
 tick_outcome r = record { ended = r.answer; station = r.next }
 
-abbrev pub restore_outcome : RestoreResult → RestoreOutcome
+abbrev pub restore_outcome : RestoreCalled → RestoreOutcome
 restore_outcome r = record { answer = restored_of r.answer; station = r.next }
