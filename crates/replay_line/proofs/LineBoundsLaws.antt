@@ -1,8 +1,7 @@
 -- Laws of every call, by one walk of the table: with one space between its words it is not long, and it is lent no more than the longest buffer.
-use Rattle.std.specs.Prelude.{ℕ, suc, ◌+◌, ◌-◌, ◌*◌, ◌≤◌, ◌<◌, ◌≡◌, Bool, true, false, cond, ◌&&◌, List, [], ◌∷◌, T, eqb, length}
+use Rattle.std.specs.Prelude.{ℕ, suc, ◌+◌, ◌-◌, ◌*◌, ◌≤◌, ◌<◌, ◌≡◌, Bool, true, false, cond, ◌&&◌, List, [], ◌∷◌, eqb, length, Option, None, Some}
 use Rattle.std.proofs.Math.Path.{refl}
 use Rattle.std.proofs.Common.{sym, ap, subst, arith, lit≤}
-use Rattle.std.proofs.Math.Option.{Option, none, some}
 use Rattle.std.proofs.Math.Dec.{leb}
 use borrow.Author.Tests.{eqb-true, eqb-false, leb-true, ne_eqb, lt-ltb}
 use Rattle.report.proofs.ChoicesLaws.{both}
@@ -11,6 +10,7 @@ use Rattle.text.specs.Words.{ascii}
 use Rattle.replay_line.specs.LineWords.{words, same_word}
 use Rattle.replay_line.specs.LineValues.{hex_byte, all_digits, value_after, leading_zero, greatest, digits_after, number}
 use Rattle.replay_line.proofs.LineValuesLaws.{grows}
+use Rattle.replay_line.proofs.LineWordsLaws.{same_decides}
 use Rattle.replay_line.specs.LineFields.{NextValue, nothing, got, valued, first, and_then, up_to, greatest_port, most_lent, room_number, port_number, port_and_bytes, Lent, lent, in_front, bytes_of, most_bytes, limited}
 use Rattle.replay_line.specs.Commands.{LineWriter, Command, blank, no_call, take, tick, restore, read, mouse, dump}
 use Rattle.replay_line.specs.LineCalls.{with_no_more, given, with_bytes, lent_alone, lent_bytes, request_call, cancel_call, switch_call, led_call, frame_call, LineRow, other_rows, writer_rows, table, command_named, command_in, without_return, hash, text_rule, line_rule}
@@ -26,8 +26,8 @@ Any value = Unit {0}
 
 -- a word that stands for a value has at most `most` characters, and the value has the property
 abbrev Fits : (ℕ → Type 0) → ℕ → List ℕ → Option ℕ → Type 0
-Fits P most word none = Unit {0}
-Fits P most word (some value) = (length word ≤ most) × P value
+Fits P most word None = Unit {0}
+Fits P most word (Some value) = (length word ≤ most) × P value
 
 -- the characters of a byte, and the most of a number
 abbrev byte_length : ℕ
@@ -36,9 +36,9 @@ byte_length = 2
 abbrev number_length : ℕ
 number_length = 5
 
-byte_by : (word : List ℕ) (t : Bool) (o : Option ℕ) → eqb (length word) byte_length ≡ t → Fits Any byte_length word (cond t o none)
-byte_by word true none e = tt
-byte_by word true (some value) e = (omega (arith, eqb-true (length word) byte_length e), tt)
+byte_by : (word : List ℕ) (t : Bool) (o : Option ℕ) → eqb (length word) byte_length ≡ t → Fits Any byte_length word (cond t o None)
+byte_by word true None e = tt
+byte_by word true (Some value) e = (omega (arith, eqb-true (length word) byte_length e), tt)
 byte_by word false o e = tt
 
 byte_fits : (word : List ℕ) → Fits Any byte_length word (hex_byte word)
@@ -62,7 +62,7 @@ module _ (a b c d e f : ℕ) (text : List ℕ) where
       let other = eqb-false a 48 (simp (lt-ltb 1 (length six) (omega arith)) at z) in
       omega (arith, leb-true 48 a range.0, other)
 
-  six_by : (t : Bool) → (leading_zero six ≡ t) → (s : Bool) → (all_digits six && leb (value_after 0 six) greatest ≡ s) → Fits Any number_length six (cond t none (cond s (some (value_after 0 six)) none))
+  six_by : (t : Bool) → (leading_zero six ≡ t) → (s : Bool) → (all_digits six && leb (value_after 0 six) greatest ≡ s) → Fits Any number_length six (cond t None (cond s (Some (value_after 0 six)) None))
   six_by true z s h = tt
   six_by false z false h = tt
   six_by false z true h =
@@ -76,8 +76,8 @@ module _ (a b c d e f : ℕ) (text : List ℕ) where
       (six_by (leading_zero six) refl (all_digits six && leb (value_after 0 six) greatest) refl)
 
 few : (word : List ℕ) (o : Option ℕ) → length word ≤ number_length → Fits Any number_length word o
-few word none h = tt
-few word (some value) h = (h, tt)
+few word None h = tt
+few word (Some value) h = (h, tt)
 
 number_fits : (word : List ℕ) → Fits Any number_length word (number word)
 number_fits [] = few [] (number []) (lit≤ tt)
@@ -89,13 +89,13 @@ number_fits (a ∷ b ∷ c ∷ d ∷ e ∷ []) = few (a ∷ b ∷ c ∷ d ∷ e 
 number_fits (a ∷ b ∷ c ∷ d ∷ e ∷ f ∷ text) = six_fit a b c d e f text
 
 -- and up to a limit
-up_to_by : (limit : ℕ) (word : List ℕ) (n : ℕ) (t : Bool) → leb n limit ≡ t → length word ≤ number_length → Fits (λ (m : ℕ). m ≤ limit) number_length word (cond t (some n) none)
+up_to_by : (limit : ℕ) (word : List ℕ) (n : ℕ) (t : Bool) → leb n limit ≡ t → length word ≤ number_length → Fits (λ (m : ℕ). m ≤ limit) number_length word (cond t (Some n) None)
 up_to_by limit word n true e h = (h, leb-true n limit e)
 up_to_by limit word n false e h = tt
 
 up_to_fits : (limit : ℕ) (word : List ℕ) (o : Option ℕ) → Fits Any number_length word o → Fits (λ (m : ℕ). m ≤ limit) number_length word (up_to limit o)
-up_to_fits limit word none h = tt
-up_to_fits limit word (some n) h = up_to_by limit word n (leb n limit) refl h.0
+up_to_fits limit word None h = tt
+up_to_fits limit word (Some n) h = up_to_by limit word n (leb n limit) refl h.0
 
 -- what is read takes at most `most` of the words
 abbrev Takes : {A : Type 0} → (A → Type 0) → ℕ → List (List ℕ) → NextValue A → Type 0
@@ -104,8 +104,8 @@ Takes P most words (got value following) = (size_of words ≤ most + size_of fol
 
 valued_takes : (P : ℕ → Type 0) (most : ℕ) (word : List ℕ) (following : List (List ℕ)) (o : Option ℕ) → Fits P most word o → Takes P (suc most) (word ∷ following) (valued o following)
 unfolding size_of
-valued_takes P most word following none h = tt
-valued_takes P most word following (some value) h = (omega (arith, h.0), h.1)
+valued_takes P most word following None h = tt
+valued_takes P most word following (Some value) h = (omega (arith, h.0), h.1)
 
 first_takes : (P : ℕ → Type 0) (most : ℕ) (value : List ℕ → Option ℕ) → ((word : List ℕ) → Fits P most word (value word)) → (words : List (List ℕ)) → Takes P (suc most) words (first value words)
 first_takes P most value h [] = tt
@@ -186,14 +186,14 @@ no_more_bounded command (word ∷ words) r = none_called refl
 
 -- every word that is left is a byte
 abbrev Bytes : List (List ℕ) → Option (List ℕ) → Type 0
-Bytes words none = Unit {0}
-Bytes words (some bytes) = size_of words ≤ byte_most * length bytes
+Bytes words None = Unit {0}
+Bytes words (Some bytes) = size_of words ≤ byte_most * length bytes
 
 before_bytes : (word : List ℕ) (following : List (List ℕ)) (o : Option ℕ) (os : Option (List ℕ)) → Fits Any byte_length word o → Bytes following os → Bytes (word ∷ following) (in_front o os)
 unfolding size_of
-before_bytes word following none os h b = tt
-before_bytes word following (some value) none h b = tt
-before_bytes word following (some value) (some bytes) h b = omega (arith, h.0, b)
+before_bytes word following None os h b = tt
+before_bytes word following (Some value) None h b = tt
+before_bytes word following (Some value) (Some bytes) h b = omega (arith, h.0, b)
 
 all_bytes : (words : List (List ℕ)) → Bytes words (bytes_of words)
 unfolding bytes_of size_of
@@ -204,13 +204,13 @@ abbrev bytes_most : ℕ → ℕ
 bytes_most most = byte_most * most
 
 module _ (most : ℕ) (command : List ℕ → Command) (lends : (bytes : List ℕ) → lent_room (command bytes) ≤ most_lent) (words : List (List ℕ)) where
-  limited_by : (bytes : List ℕ) (t : Bool) → leb (length bytes) most ≡ t → size_of words ≤ byte_most * length bytes → Bounded (bytes_most most) words (given (cond t (some bytes) none) command)
+  limited_by : (bytes : List ℕ) (t : Bool) → leb (length bytes) most ≡ t → size_of words ≤ byte_most * length bytes → Bounded (bytes_most most) words (given (cond t (Some bytes) None) command)
   limited_by bytes true e h = a_call (omega (arith, h, leb-true (length bytes) most e)) (lends bytes)
   limited_by bytes false e h = none_called refl
 
   given_bounded : (o : Option (List ℕ)) → Bytes words o → Bounded (bytes_most most) words (given (limited most o) command)
-  given_bounded none h = none_called refl
-  given_bounded (some bytes) h = limited_by bytes (leb (length bytes) most) refl h
+  given_bounded None h = none_called refl
+  given_bounded (Some bytes) h = limited_by bytes (leb (length bytes) most) refl h
 
   bytes_bounded : Bounded (bytes_most most) words (with_bytes most command words)
   unfolding with_bytes
@@ -264,11 +264,7 @@ abbrev name_most : ℕ
 name_most = length (ascii "get-paired")
 
 same_length : (word name : List ℕ) → same_word word name ≡ true → length word ≡ length name
-unfolding same_word
-same_length [] [] e = refl
-same_length [] (y ∷ name) e = absurd (subst T (sym e) tt)
-same_length (x ∷ word) [] e = absurd (subst T (sym e) tt)
-same_length (x ∷ word) (y ∷ name) e = ap suc (same_length word name (both (eqb x y) (same_word word name) e).1)
+same_length word name e = ap length ((same_decides word name).0 e)
 
 data AllBounded : List LineRow → Type 0 where
   no_row : AllBounded []

@@ -1,7 +1,6 @@
 -- docs/SCRIPTS.md, "Lines": lines worked out, those at the edges of the script language too.
-use Rattle.std.specs.Prelude.{ℕ, zero, suc, ◌≡◌, refl, cond, List, [], ◌∷◌, ◌++◌, map, leb, replicate}
+use Rattle.std.specs.Prelude.{ℕ, zero, suc, ◌≡◌, refl, cond, List, [], ◌∷◌, ◌++◌, map, leb, replicate, Option, Some, None}
 use Rattle.std.proofs.Common.{◌∙◌, ap}
-use Rattle.std.proofs.Math.Option.{Option, some, none}
 use Rattle.std.proofs.lemmas.List.{length-replicate}
 use Rattle.text.specs.Words.{ascii}
 use Rattle.replay_line.specs.LineWords.{words, words_after, same_word}
@@ -69,16 +68,16 @@ unfolding line_rule text_rule without_return words words_after same_word hex_byt
 all_read = refl
 
 -- a call with as many bytes as it may have, and with one more
-zero_bytes : (n : ℕ) → bytes_of (replicate n (ascii "00")) ≡ some (replicate n 0)
+zero_bytes : (n : ℕ) → bytes_of (replicate n (ascii "00")) ≡ Some (replicate n 0)
 unfolding bytes_of hex_byte hex_digit
 zero_bytes zero = refl
-zero_bytes (suc n) = ap (in_front (some 0)) (zero_bytes n)
+zero_bytes (suc n) = ap (in_front (Some 0)) (zero_bytes n)
 
-zeros : (most n : ℕ) (command : List ℕ → Command) → with_bytes most command (replicate n (ascii "00")) ≡ given (cond (leb n most) (some (replicate n 0)) none) command
+zeros : (most n : ℕ) (command : List ℕ → Command) → with_bytes most command (replicate n (ascii "00")) ≡ given (cond (leb n most) (Some (replicate n 0)) None) command
 unfolding with_bytes
 zeros most n command =
     ap (λ (o : Option (List ℕ)). given (limited most o) command) (zero_bytes n)
-    ∙ ap (λ (k : ℕ). given (cond (leb k most) (some (replicate n 0)) none) command) (length-replicate n 0)
+    ∙ ap (λ (k : ℕ). given (cond (leb k most) (Some (replicate n 0)) None) command) (length-replicate n 0)
 
 longest_report : command_in (ascii "take" ∷ replicate 256 (ascii "00")) ≡ take (replicate 256 0)
 unfolding same_word

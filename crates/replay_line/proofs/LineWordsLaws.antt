@@ -1,22 +1,14 @@
--- Laws of the words of a line, read by offsets in it: spaces skipped, a word run through, and two words compared.
-use Rattle.std.specs.Prelude.{ℕ, suc, ◌+◌, ◌-◌, ◌≤◌, ◌<◌, ◌≡◌, refl, Bool, true, false, not, ◌&&◌, eqb, get_or, take, drop}
-use Rattle.std.proofs.Common.{sym, ◌∙◌, add-one, length-drop, drop_of_length-le, drop-cons, take-suc, get_or-drop, length-take-le, eq-eqb, ne_eqb, eqb-true}
-use Rattle.std.proofs.Math.Path.{ap}
+-- Laws of the words of a text: the spaces at its front, its first word, and two words compared.
+use Rattle.std.specs.Prelude.{ℕ, suc, ◌+◌, ◌<◌, ◌≡◌, refl, Bool, true, false, not, cond, ◌&&◌, eqb, ◌==◌, length, take, drop}
+use Rattle.std.specs.Bool.{Decides}
+use Rattle.std.specs.List.{prefix_len}
+use Rattle.std.proofs.Common.{sym, ◌∙◌, ap, arith, eq-eqb, ne_eqb, eqb-true}
+use Rattle.std.proofs.Math.Numerals.{one-add}
+use mathlib.Core.List.{List, [], ◌∷◌, ◌++◌, append_assoc, append-nil}
 use Rattle.std.proofs.Math.Bool.{and-false}
-use mathlib.Core.List.{List, [], ◌∷◌, ◌++◌}
-use native.Mathlib.Omega.{arith}
-use Rattle.std.proofs.Math.ListN.{length}
 use Rattle.std.proofs.lemmas.Bool.{eqb-false}
-use Rattle.replay_line.specs.LineWords.{space, closed, words_after, words, same_word, no_word}
-use Rattle.replay_line.specs.LineContracts.{part, starts_space, starts_word, Skipped, Ended, word_from, NextWord}
-
-length_part : (start end : ℕ) (line : List ℕ) → start ≤ end → end ≤ length line → length (part start end line) ≡ end - start
-length_part start end line p q =
-    length-take-le (end - start) (drop start line) (omega (arith, length-drop start line))
-
--- the text from an offset on begins with the character there
-front : (line : List ℕ) (i : ℕ) → i < length line → drop i line ≡ get_or line i 0 ∷ drop (i + 1) line
-front line i h = rw (add-one, drop-cons line i 0)
+use Rattle.std.proofs.lemmas.Slice.Eq.{compares_Decides}
+use Rattle.replay_line.specs.LineWords.{space, closed, words_after, words, same_word}
 
 -- a space closes what is read of a word
 at_space : (read : List ℕ) (c : ℕ) (text : List ℕ) → c ≡ space → words_after read (c ∷ text) ≡ closed read (words text)
@@ -32,149 +24,67 @@ space_skipped : (c : ℕ) (text : List ℕ) → c ≡ space → words (c ∷ tex
 unfolding words
 space_skipped c text h = at_space [] c text h
 
--- no word in an empty text
-none_left : (text : List ℕ) → starts_space text ≡ false → starts_word text ≡ false → words text ≡ []
+-- how many spaces stand at the front, and how long the word there is
+abbrev spaces : List ℕ → ℕ
+spaces text = prefix_len (λ c. c == space) text
+
+abbrev word_length : List ℕ → ℕ
+word_length text = prefix_len (λ c. not (c == space)) text
+
+-- a word that is read up to its end
+run_through : (read text : List ℕ) → words_after read text ≡ closed (read ++ take (word_length text) text) (words (drop (word_length text) text))
 unfolding words words_after
-none_left [] p q = refl
-none_left (c ∷ text) p q = let z : ◌≡◌ {A = Bool} true false = sym (ap not p) ∙ q in absurd (let n : ◌≡◌ {A = ℕ} 0 1 = cc in omega arith)
-
--- skipping spaces
-pub record Skipping (line : List ℕ) (at i : ℕ) : Type 0 where
-  pub within : i ≤ length line
-  pub same : words (drop at line) ≡ words (drop i line)
-
-module _ (line : List ℕ) (at : ℕ) where
-  pub skip_begun : at ≤ length line → Skipping line at at
-  skip_begun h = record { within = h; same = refl }
-
-  pub skip_more : {i : ℕ} → Skipping line at i → i < length line → get_or line i 0 ≡ space → Skipping line at (i + 1)
-  skip_more {i} s h e =
-      record { within = omega arith; same = s.same ∙ ap words (front line i h) ∙ space_skipped _ _ e }
-
-  pub skip_found : {i : ℕ} → Skipping line at i → i < length line → (get_or line i 0 ≡ space → ⊥) → Skipped line at i
-  skip_found {i} s h e =
-      record { within = s.within; same = s.same; solid = ap starts_space (front line i h) ∙ ne_eqb _ _ e }
-
-  pub skip_out : {i : ℕ} → Skipping line at i → length line ≤ i → Skipped line at i
-  skip_out {i} s h =
-      record { within = s.within; same = s.same; solid = ap starts_space (drop_of_length-le line h) }
-
-  pub skip_past : length line < at → Skipped line at (length line)
-  skip_past h =
-      let past : length line ≤ at = omega arith in
-      let end : length line ≤ length line = omega arith in
-      record {
-        within = end;
-        same = ap words (drop_of_length-le line past ∙ sym (drop_of_length-le line end));
-        solid = ap starts_space (drop_of_length-le line end);
-      }
-
--- running through a word
-pub record Running (line : List ℕ) (start i : ℕ) : Type 0 where
-  pub ordered : start ≤ i
-  pub within : i ≤ length line
-  pub so : words (drop start line) ≡ words_after (part start i line) (drop i line)
-
--- one character more
-part_more : (line : List ℕ) (start i : ℕ) → start ≤ i → i < length line → part start (i + 1) line ≡ part start i line ++ (get_or line i 0 ∷ [])
-part_more line start i p h =
-    let n : i + 1 - start ≡ suc (i - start) = omega arith in
-    let j : i - start < length (drop start line) = omega (arith, length-drop start line) in
-    let k : start + (i - start) ≡ i = omega arith in
-    ap (λ (m : ℕ). take m (drop start line)) n
-    ∙ take-suc (drop start line) (i - start) 0 j
-    ∙ ap (λ (c : ℕ). part start i line ++ (c ∷ [])) (get_or-drop start line (i - start) 0 ∙ ap (λ (m : ℕ). get_or line m 0) k)
-
-module _ (line : List ℕ) (start : ℕ) where
-  pub run_begun : start ≤ length line → Running line start start
-  unfolding words
-  run_begun h =
-      let z : start - start ≡ 0 = omega arith in
-      record {
-        ordered = omega arith;
-        within = h;
-        so = ap (λ (m : ℕ). words_after (take m (drop start line)) (drop start line)) (sym z);
-      }
-
-  pub run_more : {i : ℕ} → Running line start i → i < length line → (get_or line i 0 ≡ space → ⊥) → Running line start (i + 1)
-  run_more {i} r h e =
-      record {
-        ordered = omega (arith, r.ordered);
-        within = omega arith;
-        so =
-            r.so
-            ∙ ap (words_after (part start i line)) (front line i h)
-            ∙ at_other _ _ _ e
-            ∙ ap (λ (w : List ℕ). words_after w (drop (i + 1) line)) (sym (part_more line start i r.ordered h));
-      }
-
-  pub run_stopped_law : {i : ℕ} → Running line start i → i < length line → get_or line i 0 ≡ space → Ended line start i
-  run_stopped_law {i} r h e =
-      record {
-        ordered = r.ordered;
-        within = r.within;
-        so =
-            r.so
-            ∙ ap (words_after (part start i line)) (front line i h)
-            ∙ at_space _ _ _ e
-            ∙ ap (closed (part start i line)) (sym (ap words (front line i h) ∙ space_skipped _ _ e));
-        stopped = ap starts_word (front line i h) ∙ ap not (eq-eqb _ _ e);
-      }
-
-  pub run_out : {i : ℕ} → Running line start i → length line ≤ i → Ended line start i
-  unfolding words words_after
-  run_out {i} r h =
-      record {
-        ordered = r.ordered;
-        within = r.within;
-        so =
-            r.so
-            ∙ ap (words_after (part start i line)) (drop_of_length-le line h)
-            ∙ ap (λ (t : List ℕ). closed (part start i line) (words t)) (sym (drop_of_length-le line h));
-        stopped = ap starts_word (drop_of_length-le line h);
-      }
-
-one_of : (word : List ℕ) (following : List (List ℕ)) → (length word ≡ 0 → following ≡ []) → closed word following ≡ word_from word following
-one_of [] following h = h refl
-one_of (c ∷ word) following h = refl
-
-pub next_found : (line : List ℕ) (at : ℕ) {start end : ℕ} → Skipped line at start → Ended line start end → NextWord line at start end
-next_found line at {start} {end} s e =
-    record {
-      ordered = e.ordered;
-      within = e.within;
-      so = s.same ∙ e.so ∙ one_of (part start end line) (words (drop end line)) (λ z. none_left (drop end line) (solid_end z) e.stopped);
-    }
+run_through read [] = ap (λ (w : List ℕ). closed w []) (sym (append-nil read))
+run_through read (c ∷ text) = by (eqb c space) refl (run_through (read ++ (c ∷ [])) text)
   where
-    solid_end : length (part start end line) ≡ 0 → starts_space (drop end line) ≡ false
-    solid_end z =
-        let same : end ≡ start = omega (arith, length_part start end line e.ordered e.within, e.ordered) in
-        ap (λ (n : ℕ). starts_space (drop n line)) same ∙ s.solid
+    by : (t : Bool) → eqb c space ≡ t → words_after (read ++ (c ∷ [])) text ≡ closed ((read ++ (c ∷ [])) ++ take (word_length text) text) (words (drop (word_length text) text)) → words_after read (c ∷ text) ≡ closed (read ++ take (cond (not t) (1 + word_length text) 0) (c ∷ text)) (words (drop (cond (not t) (1 + word_length text) 0) (c ∷ text)))
+    by true e on =
+        at_space read c text (eqb-true c space e)
+        ∙ ap (λ (w : List ℕ). closed w (words text)) (sym (append-nil read))
+        ∙ ap (closed (read ++ [])) (sym (space_skipped c text (eqb-true c space e)))
+    by false e on =
+        at_other read c text (eqb-false c space e)
+        ∙ on
+        ∙ ap (λ (w : List ℕ). closed w (words (drop (word_length text) text))) (append_assoc read (c ∷ []) (take (word_length text) text))
+        ∙ ap (λ (n : ℕ). closed (read ++ take n (c ∷ text)) (words (drop n (c ∷ text)))) (sym (one-add (word_length text)))
 
--- no word is left where the next has no characters
-no_characters : (word : List ℕ) (following : List (List ℕ)) → no_word (word_from word following) ≡ eqb (length word) 0
-no_characters [] following = refl
-no_characters (c ∷ word) following = sym (ne_eqb (suc (length word)) 0 (λ z. omega arith))
+-- the text from its first word on
+abbrev from_word : List ℕ → List ℕ
+from_word text = drop (spaces text) text
 
-pub at_end_law : {line : List ℕ} {at start end : ℕ} → NextWord line at start end → eqb start end ≡ no_word (words (drop at line))
-at_end_law {line} {at} {start} {end} w =
-    by (eqb start end) refl ∙ sym (ap no_word w.so ∙ no_characters (part start end line) (words (drop end line)))
+-- no word in a text of spaces
+pub no_words : (text : List ℕ) → length (from_word text) ≡ 0 → words text ≡ []
+unfolding words words_after
+no_words [] h = refl
+no_words (c ∷ text) h = by (eqb c space) refl (no_words text) h
   where
-    n : length (part start end line) ≡ end - start
-    n = length_part start end line w.ordered w.within
+    by : (t : Bool) → eqb c space ≡ t → (length (from_word text) ≡ 0 → words text ≡ []) → length (drop (cond t (1 + spaces text) 0) (c ∷ text)) ≡ 0 → words (c ∷ text) ≡ []
+    by true e on h = space_skipped c text (eqb-true c space e) ∙ on (rw one-add at h)
+    by false e on h = absurd (omega (arith, h))
 
-    by : (t : Bool) → eqb start end ≡ t → t ≡ eqb (length (part start end line)) 0
-    by true e =
-        let same : start ≡ end = eqb-true _ _ e in
-        let z : length (part start end line) ≡ 0 = omega (arith, n) in
-        sym (eq-eqb _ _ z)
-    by false e = sym (ne_eqb (length (part start end line)) 0 (λ z. eqb-false start end e (omega (arith, n, w.ordered))))
+-- the word at the front, and the words after it
+abbrev word_first : List ℕ → List (List ℕ)
+word_first text = take (word_length text) text ∷ words (drop (word_length text) text)
+
+pub first_word : (text : List ℕ) → 0 < length (from_word text) → words text ≡ word_first (from_word text)
+unfolding words
+first_word [] h = absurd (omega (arith, h))
+first_word (c ∷ text) h = by (eqb c space) refl (first_word text) h
+  where
+    by : (t : Bool) → eqb c space ≡ t → (0 < length (from_word text) → words text ≡ word_first (from_word text)) → 0 < length (drop (cond t (1 + spaces text) 0) (c ∷ text)) → words (c ∷ text) ≡ word_first (drop (cond t (1 + spaces text) 0) (c ∷ text))
+    by true e on h =
+        space_skipped c text (eqb-true c space e)
+        ∙ on (rw one-add at h)
+        ∙ ap (λ (n : ℕ). word_first (drop n (c ∷ text))) (sym (one-add (spaces text)))
+    by false e on h =
+        at_other [] c text (eqb-false c space e)
+        ∙ run_through (c ∷ []) text
+        ∙ ap (λ (n : ℕ). take n (c ∷ text) ∷ words (drop n (c ∷ text))) (sym (ap (λ (t : Bool). cond (not t) (1 + word_length text) 0) e ∙ one-add (word_length text)))
 
 -- comparing two words
-pub record Comparing (word name : List ℕ) (i : ℕ) : Type 0 where
-  pub within : i ≤ length word
-  pub alike : length word ≡ length name
-  pub so : same_word word name ≡ same_word (drop i word) (drop i name)
+pub same_decides : (word name : List ℕ) → Decides (same_word word name) (word ≡ name)
+unfolding same_word
+same_decides = compares_Decides same_word (record { empty = refl; shorter = λ y ys. refl; longer = λ x xs. refl; heads = λ x y xs ys. refl })
 
 pub unlike : (word name : List ℕ) → (length word ≡ length name → ⊥) → same_word word name ≡ false
 unfolding same_word
@@ -183,28 +93,3 @@ unlike [] (y ∷ ys) h = refl
 unlike (x ∷ xs) [] h = refl
 unlike (x ∷ xs) (y ∷ ys) h =
     ap (λ (t : Bool). eqb x y && t) (unlike xs ys (λ e. h (ap suc e))) ∙ and-false (eqb x y)
-
-module _ (word name : List ℕ) where
-  pub compare_begun : length word ≡ length name → Comparing word name 0
-  compare_begun h = record { within = omega arith; alike = h; so = refl }
-
-  module _ {i : ℕ} (c : Comparing word name i) (h : i < length word) where
-    fronts : same_word word name ≡ same_word (get_or word i 0 ∷ drop (i + 1) word) (get_or name i 0 ∷ drop (i + 1) name)
-    fronts =
-        let k : i < length name = omega (arith, c.alike) in
-        c.so ∙ ap (λ (w : List ℕ). same_word w (drop i name)) (front word i h) ∙ ap (same_word (get_or word i 0 ∷ drop (i + 1) word)) (front name i k)
-
-    pub compare_more : get_or word i 0 ≡ get_or name i 0 → Comparing word name (i + 1)
-    unfolding same_word
-    compare_more e =
-        record { within = omega arith; alike = c.alike; so = fronts ∙ ap (λ (t : Bool). t && same_word (drop (i + 1) word) (drop (i + 1) name)) (eq-eqb _ _ e) }
-
-    pub compare_differs : (get_or word i 0 ≡ get_or name i 0 → ⊥) → same_word word name ≡ false
-    unfolding same_word
-    compare_differs e = fronts ∙ ap (λ (t : Bool). t && same_word (drop (i + 1) word) (drop (i + 1) name)) (ne_eqb _ _ e)
-
-  pub compare_done : {i : ℕ} → Comparing word name i → length word ≤ i → same_word word name ≡ true
-  unfolding same_word
-  compare_done {i} c h =
-      let k : length name ≤ i = omega (arith, c.alike) in
-      c.so ∙ ap (λ (w : List ℕ). same_word w (drop i name)) (drop_of_length-le word h) ∙ ap (same_word []) (drop_of_length-le name k)

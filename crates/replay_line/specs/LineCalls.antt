@@ -1,7 +1,6 @@
 -- docs/SCRIPTS.md, "Lines": one line, and the table of calls.
-use Rattle.std.specs.Prelude.{ℕ, ◌-◌, cond, List, [], ◌∷◌, eqb}
+use Rattle.std.specs.Prelude.{ℕ, ◌-◌, cond, List, [], ◌∷◌, eqb, Option, Some, None}
 use Prim.Native.String as strings
-use Rattle.std.proofs.Math.Option.{Option, none, some}
 use Rattle.std.proofs.Math.ListN as lists
 use Rattle.report.specs.Sizes.{byte}
 use Rattle.text.specs.Words.{ascii}
@@ -16,8 +15,8 @@ with_no_more command words = cond (no_word words) command no_call
 
 -- the words that are left are bytes, at most so many
 abbrev pub given : Option (List ℕ) → (List ℕ → Command) → Command
-given none command = no_call
-given (some bytes) command = command bytes
+given None command = no_call
+given (Some bytes) command = command bytes
 
 unfoldable pub with_bytes : (most : ℕ) → (List ℕ → Command) → List (List ℕ) → Command
 with_bytes most command words = given (limited most (bytes_of words)) command

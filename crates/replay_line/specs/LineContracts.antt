@@ -1,94 +1,42 @@
 -- What the program reads of a line, in the terms of the rules.
-use Rattle.std.specs.Prelude.{ℕ, ◌-◌, ◌≤◌, ◌≡◌, Bool, false, not, cond, [], ◌∷◌, eqb, length, take, drop}
+use Rattle.std.specs.Prelude.{ℕ, ◌≤◌, ◌≡◌, cond, Option, Some, None, IfSome, option_map, ltb, take}
+use Rattle.std.specs.Borrow.{Bor}
 use mathlib.Core.List as lists
-use Rattle.std.proofs.Math.Option.{Option, none, some}
-use Rattle.replay_line.specs.declared.values.Hex.{Hex}
-use Rattle.replay_line.specs.declared.values.Hex.TheVariants as hexes
-use Rattle.replay_line.specs.declared.values.Decimal.{Decimal}
-use Rattle.replay_line.specs.declared.values.Decimal.TheVariants as decimals
-use Rattle.replay_line.specs.declared.fields.NextByte.{NextByte}
-use Rattle.replay_line.specs.declared.fields.NextByte.TheVariants as bytes
-use Rattle.replay_line.specs.declared.fields.NextNumber.{NextNumber}
-use Rattle.replay_line.specs.declared.fields.NextNumber.TheVariants as numbers
-use Rattle.replay_line.specs.declared.fields.NextPortAndBytes.{NextPortAndBytes}
-use Rattle.replay_line.specs.declared.fields.NextPortAndBytes.TheVariants as ports_and_bytes
-use Rattle.replay_line.specs.declared.fields.NextLent.{NextLent}
-use Rattle.replay_line.specs.declared.fields.NextLent.TheVariants as lents
-use Rattle.replay_line.specs.declared.fields.ByteList.{ByteList}
 use Rattle.replay_line.specs.declared.Command as program
 use Rattle.replay_line.specs.declared.Command.TheVariants.{Blank, NoCall, Take, Cancel, Tick, Restore, Read, Mouse, Dump, Write}
 use Rattle.replay_line.specs.declared.Writer as program_writer
 use Rattle.replay_line.specs.declared.Writer.TheVariants.{Request, Switch, GetPaired, Led, List, Store, Frame}
 use Rattle.replay_line.specs.declared.Parsed.{Parsed}
-use Rattle.replay_line.specs.LineWords.{space, closed, words}
+use Rattle.replay_line.specs.declared.fields.PortAndBytes as program_fields
+use Rattle.replay_line.specs.declared.fields.Lent as program_lent
+use Rattle.replay_line.specs.LineWords.{words}
 use Rattle.replay_line.specs.LineFields as fields
 use Rattle.replay_line.specs.Commands as rules
+use Rattle.replay_line.specs.LineCalls as calls
 
--- from a start up to an end
-abbrev pub part : ℕ → ℕ → lists.List ℕ → lists.List ℕ
-part start end line = take (end - start) (drop start line)
+-- the first word and the text after it, as the words of both; nothing is no word
+abbrev pub word_and_rest : Option (Bor (lists.List ℕ) × Bor (lists.List ℕ)) → lists.List (lists.List ℕ)
+word_and_rest None = lists.[]
+word_and_rest (Some r) = lists.◌∷◌ r.0.now (words r.1.now)
 
-abbrev pub starts_space : lists.List ℕ → Bool
-starts_space [] = false
-starts_space (c ∷ text) = eqb c space
+-- what a digit's rule comes to, as a value: its 16 is none
+abbrev pub hex_value : ℕ → Option ℕ
+hex_value value = cond (ltb value 16) (Some value) None
 
-abbrev pub starts_word : lists.List ℕ → Bool
-starts_word [] = false
-starts_word (c ∷ text) = not (eqb c space)
+-- a value, as `view` sees it, and the text after it
+abbrev pub field_and_rest : {A B : Type 0} → (A → B) → Option (A × Bor (lists.List ℕ)) → fields.NextValue B
+field_and_rest view None = fields.nothing
+field_and_rest view (Some r) = fields.got (view r.0) (words r.1.now)
 
--- r is the first offset from `at` on that holds no space
-pub record Skipped (line : lists.List ℕ) (at r : ℕ) : Type 0 where
-  pub within : r ≤ length line
-  pub same : words (drop at line) ≡ words (drop r line)
-  pub solid : starts_space (drop r line) ≡ false
+abbrev pub port_and_bytes_read : program_fields.PortAndBytes → fields.PortAndBytes
+port_and_bytes_read r = record { port = r.port.0; byte2 = r.byte2.0; byte3 = r.byte3 }
 
--- r is the end of the word from `start` on
-pub record Ended (line : lists.List ℕ) (start r : ℕ) : Type 0 where
-  pub ordered : start ≤ r
-  pub within : r ≤ length line
-  pub so : words (drop start line) ≡ closed (part start r line) (words (drop r line))
-  pub stopped : starts_word (drop r line) ≡ false
+abbrev pub lent_read : program_lent.Lent → fields.Lent
+lent_read r = record { offset = r.offset; room = r.room }
 
--- a word before the words that follow; no character is no word, and the end
-abbrev pub word_from : lists.List ℕ → lists.List (lists.List ℕ) → lists.List (lists.List ℕ)
-word_from [] following = []
-word_from (c ∷ word) following = (c ∷ word) ∷ following
-
-pub record NextWord (line : lists.List ℕ) (at start end : ℕ) : Type 0 where
-  pub ordered : start ≤ end
-  pub within : end ≤ length line
-  pub so : words (drop at line) ≡ word_from (part start end line) (words (drop end line))
-
-abbrev pub hex_value : Hex → Option ℕ
-hex_value (hexes.Byte value) = some value
-hex_value hexes.Nothing = none
-
-abbrev pub decimal_value : Decimal → Option ℕ
-decimal_value (decimals.Number value) = some value
-decimal_value decimals.Nothing = none
-
--- an offset in the line stands for the words from there on
-abbrev pub byte_read : lists.List ℕ → NextByte → fields.NextValue ℕ
-byte_read line (bytes.Byte value next) = fields.got value (words (drop next line))
-byte_read line bytes.Nothing = fields.nothing
-
-abbrev pub number_read : lists.List ℕ → NextNumber → fields.NextValue ℕ
-number_read line (numbers.Number value next) = fields.got value (words (drop next line))
-number_read line numbers.Nothing = fields.nothing
-
-abbrev pub port_and_bytes_read : lists.List ℕ → NextPortAndBytes → fields.NextValue fields.PortAndBytes
-port_and_bytes_read line (ports_and_bytes.PortAndBytes port byte2 byte3 next) =
-    fields.got (record { port = port.0; byte2 = byte2.0; byte3 = byte3 }) (words (drop next line))
-port_and_bytes_read line ports_and_bytes.Nothing = fields.nothing
-
-abbrev pub lent_read : lists.List ℕ → NextLent → fields.NextValue fields.Lent
-lent_read line (lents.Lent offset room next) =
-    fields.got (record { offset = offset; room = room }) (words (drop next line))
-lent_read line lents.Nothing = fields.nothing
-
--- bytes at the front of a buffer
-abbrev pub bytes_listed : ByteList → (buffer : lists.List ℕ) → Option (lists.List ℕ)
-bytes_listed r buffer = cond r.whole (some (take r.count buffer)) none
+-- so many bytes at the front of a buffer
+abbrev pub bytes_listed : Option ℕ → (buffer : lists.List ℕ) → Option (lists.List ℕ)
+bytes_listed count buffer = option_map (λ n. take n buffer) count
 
 abbrev pub writer_of : program_writer.Writer → rules.LineWriter
 writer_of (Request port byte2 byte3 ticks) = rules.request port.0 byte2.0 byte3 ticks
@@ -115,14 +63,21 @@ command_of (Write writer offset room) bytes = rules.write (writer_of writer) off
 abbrev pub parsed_command : Parsed → (buffer : lists.List ℕ) → rules.Command
 parsed_command p buffer = command_of p.command (take p.count buffer)
 
--- an answer that means this command, with its bytes at the front of a buffer and within it
-pub record Parses (command : rules.Command) (p : Parsed) (buffer : lists.List ℕ) : Type 0 where
-  pub so : parsed_command p buffer ≡ command
-  pub within : p.count ≤ fields.most_lent
+-- where no call was read there is none
+abbrev pub call_read : Option Parsed → (buffer : lists.List ℕ) → rules.Command
+call_read None buffer = rules.no_call
+call_read (Some p) buffer = parsed_command p buffer
 
--- one without bytes: whatever the buffer holds
-abbrev pub ParsesBare : rules.Command → Parsed → Type 0
-ParsesBare command p = (buffer : lists.List ℕ) → Parses command p buffer
+-- an answer that means this command, with its bytes at the front of a buffer and within it
+pub record Parses (command : rules.Command) (r : Option Parsed) (buffer : lists.List ℕ) : Type 0 where
+  pub so : call_read r buffer ≡ command
+  pub within : IfSome r (λ p. p.count ≤ fields.most_lent)
+
+-- PLACE LEN, and then bytes, at most so many
+unfoldable pub lent_call : (most : ℕ) → rules.LineWriter → lists.List (lists.List ℕ) → rules.Command
+lent_call most writer words =
+    fields.and_then (fields.lent words) rules.no_call λ at words.
+    calls.with_bytes most (rules.write writer at.offset at.room) words
 
 -- the length of the lent buffer; 0 where none is lent
 abbrev pub lent_room : rules.Command → ℕ

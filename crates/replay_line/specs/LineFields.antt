@@ -1,6 +1,5 @@
 -- docs/SCRIPTS.md, "Lines": the words of a call one after another, each as what it has to stand for.
-use Rattle.std.specs.Prelude.{ℕ, cond, List, [], ◌∷◌, length, leb}
-use Rattle.std.proofs.Math.Option.{Option, none, some}
+use Rattle.std.specs.Prelude.{ℕ, cond, List, [], ◌∷◌, length, leb, Option, Some, None}
 use Rattle.replay_line.specs.LineValues.{hex_byte, number}
 
 -- what is read at the front of the words, and the words after it; or nothing, where a word is missing or stands for no such value
@@ -10,8 +9,8 @@ pub data NextValue (A : Type 0) : Type 0 where
 
 module _ {A : Type 0} where
   abbrev pub valued : Option A → List (List ℕ) → NextValue A
-  valued none following = nothing
-  valued (some value) following = got value following
+  valued None following = nothing
+  valued (Some value) following = got value following
 
   -- the first word, as a value
   abbrev pub first : (List ℕ → Option A) → List (List ℕ) → NextValue A
@@ -26,8 +25,8 @@ module _ {A B : Type 0} where
 
 -- a value up to a limit
 abbrev pub up_to : ℕ → Option ℕ → Option ℕ
-up_to limit none = none
-up_to limit (some n) = cond (leb n limit) (some n) none
+up_to limit None = None
+up_to limit (Some n) = cond (leb n limit) (Some n) None
 
 abbrev pub greatest_port : ℕ
 greatest_port = 255
@@ -70,13 +69,13 @@ lent words =
 
 -- a byte before other bytes
 abbrev pub in_front : Option ℕ → Option (List ℕ) → Option (List ℕ)
-in_front none bytes = none
-in_front (some byte) none = none
-in_front (some byte) (some bytes) = some (byte ∷ bytes)
+in_front None bytes = None
+in_front (Some byte) None = None
+in_front (Some byte) (Some bytes) = Some (byte ∷ bytes)
 
 -- HH..: every word is a byte
 unfoldable pub bytes_of : List (List ℕ) → Option (List ℕ)
-bytes_of [] = some []
+bytes_of [] = Some []
 bytes_of (word ∷ following) = in_front (hex_byte word) (bytes_of following)
 
 -- no report, payload or parameter list is longer
@@ -85,5 +84,5 @@ most_bytes = 256
 
 -- at most so many
 abbrev pub limited : (most : ℕ) → Option (List ℕ) → Option (List ℕ)
-limited most none = none
-limited most (some bytes) = cond (leb (length bytes) most) (some bytes) none
+limited most None = None
+limited most (Some bytes) = cond (leb (length bytes) most) (Some bytes) None

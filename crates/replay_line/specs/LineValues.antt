@@ -1,6 +1,5 @@
 -- docs/SCRIPTS.md, "Lines": HH, a byte in two hexadecimal digits, and N, a decimal number.
-use Rattle.std.specs.Prelude.{ℕ, ◌+◌, ◌-◌, ◌*◌, Bool, true, cond, ◌&&◌, List, [], ◌∷◌, length, ltb, leb, eqb}
-use Rattle.std.proofs.Math.Option.{Option, none, some}
+use Rattle.std.specs.Prelude.{ℕ, ◌+◌, ◌-◌, ◌*◌, Bool, true, cond, ◌&&◌, List, [], ◌∷◌, length, ltb, leb, eqb, Option, Some, None}
 use Rattle.report.specs.Ports.{in_range}
 use Rattle.report.specs.Sizes.{byte}
 use Rattle.text.specs.Words.{is_digit}
@@ -14,12 +13,12 @@ hex_digit c =
 
 -- a byte of two digits
 abbrev pub hex_pair : ℕ → ℕ → Option ℕ
-hex_pair high low = cond (ltb high 16 && ltb low 16) (some (high * 16 + low)) none
+hex_pair high low = cond (ltb high 16 && ltb low 16) (Some (high * 16 + low)) None
 
 -- HH: exactly two digits
 unfoldable pub hex_byte : List ℕ → Option ℕ
 hex_byte word =
-    cond (eqb (length word) 2) (hex_pair (hex_digit (byte word 0)) (hex_digit (byte word 1))) none
+    cond (eqb (length word) 2) (hex_pair (hex_digit (byte word 0)) (hex_digit (byte word 1))) None
 
 unfoldable pub all_digits : List ℕ → Bool
 all_digits [] = true
@@ -40,10 +39,10 @@ greatest = 65535
 -- digits alone, up to the greatest number
 unfoldable pub digits_after : ℕ → List ℕ → Option ℕ
 digits_after n text =
-    cond (all_digits text && leb (value_after n text) greatest) (some (value_after n text)) none
+    cond (all_digits text && leb (value_after n text) greatest) (Some (value_after n text)) None
 
 -- N: a decimal number from 0 to 65535 without a sign and without a leading zero
 unfoldable pub number : List ℕ → Option ℕ
 number word =
-    cond (eqb (length word) 0) none
-    (cond (leading_zero word) none (digits_after 0 word))
+    cond (eqb (length word) 0) None
+    (cond (leading_zero word) None (digits_after 0 word))

@@ -1,159 +1,90 @@
-// The words of a call one after another, each read as what it has to stand for.
-ghost use Rattle.std.specs.Prelude.{◌≡◌, ◌≤◌, length, drop};
+// The words of a call one after another, each read as what it has to stand for. A reader gives its value and the text after it.
+ghost use Rattle.std.specs.Prelude.{◌≡◌, ◌≤◌, IfSome, length};
 ghost use Rattle.replay_line.specs.LineWords.{words};
 ghost use Rattle.replay_line.specs.LineValues.{hex_byte, number};
 ghost use Rattle.replay_line.specs.LineFields.{first, port_number, port_and_bytes, lent, bytes_of, limited};
-ghost use Rattle.replay_line.specs.LineContracts.{byte_read, number_read, port_and_bytes_read, lent_read, bytes_listed};
+ghost use Rattle.replay_line.specs.LineContracts.{field_and_rest, port_and_bytes_read, lent_read, bytes_listed};
 
-use crate::values::{Decimal, Hex};
 use crate::{values, words};
 use report::{Device, FeatureIndex};
 
-const GREATEST_PORT: u16 = 255;
-
-// What is read from an offset on, and the offset after it.
-#[derive(Clone, Copy)]
-pub enum NextByte {
-    Byte { value: u8, next: usize },
-    Nothing,
-}
-
-#[derive(Clone, Copy)]
-pub enum NextNumber {
-    Number { value: u16, next: usize },
-    Nothing,
-}
-
 // PORT B2 B3.
 #[derive(Clone, Copy)]
-pub enum NextPortAndBytes {
-    PortAndBytes {
-        port: Device,
-        byte2: FeatureIndex,
-        byte3: u8,
-        next: usize,
-    },
-    Nothing,
+pub struct PortAndBytes {
+    pub port: Device,
+    pub byte2: FeatureIndex,
+    pub byte3: u8,
 }
 
 // PLACE LEN.
 #[derive(Clone, Copy)]
-pub enum NextLent {
-    Lent { offset: u16, room: u16, next: usize },
-    Nothing,
+pub struct Lent {
+    pub offset: u16,
+    pub room: u16,
 }
 
-// The number of bytes read; whole where every word was one of them.
-#[derive(Clone, Copy)]
-pub struct ByteList {
-    pub count: usize,
-    pub whole: bool,
-}
-
-// HH.
-pub fn next_byte(line: &[u8], at: usize) -> NextByte
-    ensures read { byte_read line.now result ≡ first hex_byte (words (drop at line.now)) }
+// HH. This reader and the next are two lines each: one for both, given the reader of the word, would be no plainer, since its contract has to say what a call of that reader gives.
+pub fn next_byte(text: &[u8]) -> Option<(u8, &[u8])>
+    ensures read { field_and_rest (λ n. n) result ≡ first hex_byte (words text.now) }
 {
-    let word = words::next_word(line, at);
-    let start = word.start;
-    let end = word.end;
-    match values::hex_byte(&line[start..end]) {
-        Hex::Byte(value) => NextByte::Byte { value, next: end },
-        Hex::Nothing => NextByte::Nothing,
-    }
+    let (word, rest) = words::next_word(text)?;
+    Some((values::hex_byte(word)?, rest))
 }
 
 // N.
-pub fn next_number(line: &[u8], at: usize) -> NextNumber
-    ensures read { number_read line.now result ≡ first number (words (drop at line.now)) }
+pub fn next_number(text: &[u8]) -> Option<(u16, &[u8])>
+    ensures read { field_and_rest (λ n. n) result ≡ first number (words text.now) }
 {
-    let word = words::next_word(line, at);
-    let start = word.start;
-    let end = word.end;
-    match values::number(&line[start..end]) {
-        Decimal::Number(value) => NextNumber::Number { value, next: end },
-        Decimal::Nothing => NextNumber::Nothing,
-    }
+    let (word, rest) = words::next_word(text)?;
+    Some((values::number(word)?, rest))
 }
 
 // PORT.
-pub fn next_port(line: &[u8], at: usize) -> NextByte
-    ensures read { byte_read line.now result ≡ first port_number (words (drop at line.now)) }
+pub fn next_port(text: &[u8]) -> Option<(Device, &[u8])>
+    ensures read { field_and_rest (λ d. d.0) result ≡ first port_number (words text.now) }
 {
-    let NextNumber::Number { value, next } = next_number(line, at) else {
-        return NextByte::Nothing;
-    };
-    if value <= GREATEST_PORT {
-        return NextByte::Byte {
-            value: value as u8,
-            next,
-        };
-    }
-    NextByte::Nothing
+    let (number, rest) = next_number(text)?;
+    let port = u8::try_from(number).ok()?;
+    Some((Device(port), rest))
 }
 
 // PORT B2 B3.
-pub fn next_port_and_bytes(line: &[u8], at: usize) -> NextPortAndBytes
-    ensures read { port_and_bytes_read line.now result ≡ port_and_bytes (words (drop at line.now)) }
+#[tactic(auto, unfolding(crate::specs::LineFields::port_and_bytes))]
+pub fn next_port_and_bytes(text: &[u8]) -> Option<(PortAndBytes, &[u8])>
+    ensures read { field_and_rest port_and_bytes_read result ≡ port_and_bytes (words text.now) }
 {
-    let NextByte::Byte { value: port, next } = next_port(line, at) else {
-        return NextPortAndBytes::Nothing;
-    };
-    let NextByte::Byte { value: byte2, next } = next_byte(line, next) else {
-        return NextPortAndBytes::Nothing;
-    };
-    let NextByte::Byte { value: byte3, next } = next_byte(line, next) else {
-        return NextPortAndBytes::Nothing;
-    };
-    NextPortAndBytes::PortAndBytes {
-        port: Device(port),
-        byte2: FeatureIndex(byte2),
-        byte3,
-        next,
-    }
+    let (port, rest) = next_port(text)?;
+    let (byte2, rest) = next_byte(rest)?;
+    let (byte3, rest) = next_byte(rest)?;
+    let byte2 = FeatureIndex(byte2);
+    Some((PortAndBytes { port, byte2, byte3 }, rest))
 }
 
 // PLACE LEN.
-pub fn next_lent(line: &[u8], at: usize) -> NextLent
-    ensures read { lent_read line.now result ≡ lent (words (drop at line.now)) }
+#[tactic(auto, unfolding(crate::specs::LineFields::lent))]
+pub fn next_lent(text: &[u8]) -> Option<(Lent, &[u8])>
+    ensures read { field_and_rest lent_read result ≡ lent (words text.now) }
 {
-    let NextNumber::Number {
-        value: offset,
-        next,
-    } = next_number(line, at)
-    else {
-        return NextLent::Nothing;
-    };
-    let NextNumber::Number { value: room, next } = next_number(line, next) else {
-        return NextLent::Nothing;
-    };
-    if room as usize <= crate::MOST_LENT {
-        return NextLent::Lent { offset, room, next };
+    let (offset, rest) = next_number(text)?;
+    let (room, rest) = next_number(rest)?;
+    if room as usize > crate::MOST_LENT {
+        return None;
     }
-    NextLent::Nothing
+    Some((Lent { offset, room }, rest))
 }
 
-// HH.. up to the end of the line, at most so many.
-pub(crate) fn bytes_left(line: &[u8], at: usize, most: usize, bytes: &mut [u8]) -> ByteList
-    requires { most ≤ length bytes.old }
-    ensures bytes { bytes_listed result bytes.new ≡ limited most (bytes_of (words (drop at line.now))) }
-    ensures within { result.count ≤ most }
+// HH.. up to the end of a text, as many as there is room for: how many they are.
+pub(crate) fn bytes_left(text: &[u8], bytes: &mut [u8]) -> Option<usize>
+    ensures bytes { bytes_listed result bytes.new ≡ limited (length bytes.old) (bytes_of (words text.now)) }
+    ensures within { IfSome result (λ n. n ≤ length bytes.old) }
 {
-    let mut count = 0;
-    let mut next = at;
-    while count < most {
-        let NextByte::Byte { value, next: past } = next_byte(line, next) else {
-            return ByteList {
-                count,
-                whole: words::is_end(line, next),
-            };
+    let mut rest = text;
+    for (count, byte) in bytes.iter_mut().enumerate() {
+        let Some((value, after)) = next_byte(rest) else {
+            return words::is_end(rest).then_some(count);
         };
-        bytes[count] = value;
-        count += 1;
-        next = past;
+        *byte = value;
+        rest = after;
     }
-    ByteList {
-        count,
-        whole: words::is_end(line, next),
-    }
+    words::is_end(rest).then_some(bytes.len())
 }

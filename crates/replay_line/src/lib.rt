@@ -1,13 +1,13 @@
 // One line of a replay script: the call that it is.
 #![tactic(auto)]
 
-ghost use Rattle.std.specs.Prelude.{◌≡◌, [], ◌≤◌, length, take, drop};
+ghost use Rattle.std.specs.Prelude.{◌≡◌, ◌≤◌, Some};
 ghost use Rattle.replay_line.specs.LineWords.{words};
-ghost use Rattle.replay_line.specs.LineFields.{most_lent};
-ghost use Rattle.replay_line.specs.LineCalls.{with_no_more, with_bytes, lent_alone, lent_bytes, request_call, cancel_call, switch_call, led_call, frame_call, command_named, table, other_rows, writer_rows, command_in, without_return, line_rule};
-ghost use Rattle.replay_line.specs.LineContracts.{writer_of, command_of, parsed_command, Parses, ParsesBare};
+ghost use Rattle.replay_line.specs.LineFields.{most_bytes, most_lent};
+ghost use Rattle.replay_line.specs.LineCalls.{with_bytes, request_call, cancel_call, switch_call, led_call, frame_call, command_named, table, command_in, without_return, line_rule};
+ghost use Rattle.replay_line.specs.LineContracts.{writer_of, command_of, parsed_command, Parses, lent_call};
 
-use fields::{NextByte, NextLent, NextNumber, NextPortAndBytes};
+use fields::{Lent, PortAndBytes};
 use report::{Device, FeatureIndex};
 
 mod fields;
@@ -19,11 +19,14 @@ const RETURN: u8 = 13;
 // The longest report, payload or parameter list.
 pub const MOST_BYTES: usize = 256;
 
+// As many bytes as a call may have that has none.
+const NO_BYTES: usize = 0;
+
 // The longest lent buffer, and the longest text of a store.
 pub const MOST_LENT: usize = 4096;
 
 // The calls that write into a lent buffer.
-#[derive(Clone, Copy)]
+#[derive(Clone, Copy, PartialEq, Eq)]
 pub enum Writer {
     Request {
         port: Device,
@@ -50,7 +53,7 @@ pub enum Writer {
 }
 
 // What a line asks for. A writer is lent a buffer of `room` bytes; a report, a payload, parameters or the text of a store are beside the command.
-#[derive(Clone, Copy)]
+#[derive(Clone, Copy, PartialEq, Eq)]
 pub enum Command {
     Blank,
     NoCall,
@@ -72,266 +75,154 @@ pub enum Command {
     },
 }
 
-// A command, and how many bytes its report, payload, parameters or text has.
-#[derive(Clone, Copy)]
+// A command, and how many bytes its report, payload, parameters or text has. They stand at the front of a lent buffer, since the library has no heap; the clause `call` of `parse_line` reads the two together.
+#[derive(Clone, Copy, PartialEq, Eq)]
 pub struct Parsed {
     pub command: Command,
     pub count: usize,
 }
 
-// A command without bytes.
-fn bare(command: Command) -> Parsed
-    ensures { ParsesBare (command_of command []) result }
-{
-    Parsed { command, count: 0 }
-}
-
-// A command after which no word is left.
-fn with_no_more(command: Command, line: &[u8], at: usize) -> Parsed
-    ensures { ParsesBare (with_no_more (command_of command []) (words (drop at line.now))) result }
-{
-    if words::is_end(line, at) {
-        return bare(command);
-    }
-    bare(Command::NoCall)
-}
-
-// A command after which all words are bytes, at most so many.
+// A command whose bytes are all the words that are left, at most so many.
+#[tactic(auto, unfolding(crate::specs::LineCalls::with_bytes))]
 fn with_bytes(
     command: Command,
-    line: &[u8],
-    at: usize,
     most: usize,
+    text: &[u8],
     bytes: &mut [u8; MOST_LENT],
-) -> Parsed
+) -> Option<Parsed>
     requires { most ≤ most_lent }
-    ensures { Parses (with_bytes most (command_of command) (words (drop at line.now))) result bytes.new }
+    ensures { Parses (with_bytes most (command_of command) (words text.now)) result bytes.new }
 {
-    let list = fields::bytes_left(line, at, most, bytes);
-    if list.whole {
-        return Parsed {
-            command,
-            count: list.count,
-        };
-    }
-    bare(Command::NoCall)
+    let count = fields::bytes_left(text, &mut bytes[..most])?;
+    Some(Parsed { command, count })
 }
 
-// A writer, then the offset and the length of its lent buffer, and no word more.
-fn lent_alone(writer: Writer, line: &[u8], at: usize) -> Parsed
-    ensures { ParsesBare (lent_alone (writer_of writer) (words (drop at line.now))) result }
+// A writer, then the offset and the length of its lent buffer, and then its parameters, at most so many.
+#[tactic(auto, unfolding(crate::specs::LineContracts::lent_call))]
+fn lent(writer: Writer, most: usize, text: &[u8], bytes: &mut [u8; MOST_LENT]) -> Option<Parsed>
+    requires { most ≤ most_lent }
+    ensures { Parses (lent_call most (writer_of writer) (words text.now)) result bytes.new }
 {
-    let NextLent::Lent { offset, room, next } = fields::next_lent(line, at) else {
-        return bare(Command::NoCall);
-    };
+    let (Lent { offset, room }, text) = fields::next_lent(text)?;
     let command = Command::Write {
         writer,
         offset,
         room,
     };
-    with_no_more(command, line, next)
+    with_bytes(command, most, text, bytes)
 }
 
-// A writer, then these two, and then its parameters.
-fn lent_bytes(writer: Writer, line: &[u8], at: usize, bytes: &mut [u8; MOST_LENT]) -> Parsed
-    ensures { Parses (lent_bytes (writer_of writer) (words (drop at line.now))) result bytes.new }
+#[tactic(auto, unfolding(crate::specs::LineCalls::request_call, crate::specs::LineContracts::lent_call))]
+fn request_call(text: &[u8], bytes: &mut [u8; MOST_LENT]) -> Option<Parsed>
+    ensures { Parses (request_call (words text.now)) result bytes.new }
 {
-    let NextLent::Lent { offset, room, next } = fields::next_lent(line, at) else {
-        return bare(Command::NoCall);
-    };
-    let command = Command::Write {
-        writer,
-        offset,
-        room,
-    };
-    with_bytes(command, line, next, MOST_BYTES, bytes)
-}
-
-fn request_call(line: &[u8], at: usize, bytes: &mut [u8; MOST_LENT]) -> Parsed
-    ensures { Parses (request_call (words (drop at line.now))) result bytes.new }
-{
-    let NextPortAndBytes::PortAndBytes {
-        port,
-        byte2,
-        byte3,
-        next,
-    } = fields::next_port_and_bytes(line, at)
-    else {
-        return bare(Command::NoCall);
-    };
-    let NextNumber::Number { value: ticks, next } = fields::next_number(line, next) else {
-        return bare(Command::NoCall);
-    };
+    let (PortAndBytes { port, byte2, byte3 }, text) = fields::next_port_and_bytes(text)?;
+    let (ticks, text) = fields::next_number(text)?;
     let writer = Writer::Request {
         port,
         byte2,
         byte3,
         ticks,
     };
-    lent_bytes(writer, line, next, bytes)
+    lent(writer, MOST_BYTES, text, bytes)
 }
 
-fn cancel_call(line: &[u8], at: usize) -> Parsed
-    ensures { ParsesBare (cancel_call (words (drop at line.now))) result }
+#[tactic(auto, using(crate::proofs::LineCallsLaws::no_bytes), unfolding(crate::specs::LineCalls::cancel_call))]
+fn cancel_call(text: &[u8], bytes: &mut [u8; MOST_LENT]) -> Option<Parsed>
+    ensures { Parses (cancel_call (words text.now)) result bytes.new }
 {
-    let NextPortAndBytes::PortAndBytes {
-        port,
-        byte2,
-        byte3,
-        next,
-    } = fields::next_port_and_bytes(line, at)
-    else {
-        return bare(Command::NoCall);
-    };
-    with_no_more(Command::Cancel { port, byte2, byte3 }, line, next)
+    let (PortAndBytes { port, byte2, byte3 }, text) = fields::next_port_and_bytes(text)?;
+    let command = Command::Cancel { port, byte2, byte3 };
+    with_bytes(command, NO_BYTES, text, bytes)
 }
 
-fn switch_call(line: &[u8], at: usize) -> Parsed
-    ensures { ParsesBare (switch_call (words (drop at line.now))) result }
+#[tactic(auto, using(crate::proofs::LineCallsLaws::lent_without), unfolding(crate::specs::LineCalls::switch_call))]
+fn switch_call(text: &[u8], bytes: &mut [u8; MOST_LENT]) -> Option<Parsed>
+    ensures { Parses (switch_call (words text.now)) result bytes.new }
 {
-    let NextByte::Byte { value: bits, next } = fields::next_byte(line, at) else {
-        return bare(Command::NoCall);
-    };
-    let NextByte::Byte {
-        value: timeout,
-        next,
-    } = fields::next_byte(line, next)
-    else {
-        return bare(Command::NoCall);
-    };
-    lent_alone(Writer::Switch { bits, timeout }, line, next)
+    let (bits, text) = fields::next_byte(text)?;
+    let (timeout, text) = fields::next_byte(text)?;
+    lent(Writer::Switch { bits, timeout }, NO_BYTES, text, bytes)
 }
 
-fn led_call(line: &[u8], at: usize) -> Parsed
-    ensures { ParsesBare (led_call (words (drop at line.now))) result }
+#[tactic(auto, using(crate::proofs::LineCallsLaws::lent_without), unfolding(crate::specs::LineCalls::led_call))]
+fn led_call(text: &[u8], bytes: &mut [u8; MOST_LENT]) -> Option<Parsed>
+    ensures { Parses (led_call (words text.now)) result bytes.new }
 {
-    let NextByte::Byte { value: port, next } = fields::next_port(line, at) else {
-        return bare(Command::NoCall);
-    };
-    let NextByte::Byte { value: leds, next } = fields::next_byte(line, next) else {
-        return bare(Command::NoCall);
-    };
-    let writer = Writer::Led {
-        port: Device(port),
-        leds,
-    };
-    lent_alone(writer, line, next)
+    let (port, text) = fields::next_port(text)?;
+    let (leds, text) = fields::next_byte(text)?;
+    lent(Writer::Led { port, leds }, NO_BYTES, text, bytes)
 }
 
-fn frame_call(line: &[u8], at: usize, bytes: &mut [u8; MOST_LENT]) -> Parsed
-    ensures { Parses (frame_call (words (drop at line.now))) result bytes.new }
+#[tactic(auto, unfolding(crate::specs::LineCalls::frame_call, crate::specs::LineContracts::lent_call))]
+fn frame_call(text: &[u8], bytes: &mut [u8; MOST_LENT]) -> Option<Parsed>
+    ensures { Parses (frame_call (words text.now)) result bytes.new }
 {
-    let NextPortAndBytes::PortAndBytes {
-        port,
-        byte2,
-        byte3,
-        next,
-    } = fields::next_port_and_bytes(line, at)
-    else {
-        return bare(Command::NoCall);
-    };
-    lent_bytes(Writer::Frame { port, byte2, byte3 }, line, next, bytes)
+    let (PortAndBytes { port, byte2, byte3 }, text) = fields::next_port_and_bytes(text)?;
+    let writer = Writer::Frame { port, byte2, byte3 };
+    lent(writer, MOST_BYTES, text, bytes)
 }
 
-// The calls that need no station, and the dump.
-fn other_call(name: &[u8], line: &[u8], at: usize, bytes: &mut [u8; MOST_LENT]) -> Parsed
-    ensures { Parses (command_named other_rows name.now (words (drop at line.now))) result bytes.new }
+// The call of this name, by the words after it.
+#[tactic(auto, using(crate::proofs::LineCallsLaws::no_bytes, crate::proofs::LineCallsLaws::lent_without), unfolding(crate::specs::LineWords::same_word, crate::specs::LineCalls::other_rows, crate::specs::LineCalls::writer_rows, crate::specs::LineContracts::lent_call))]
+fn named_call(name: &str, text: &[u8], bytes: &mut [u8; MOST_LENT]) -> Option<Parsed>
+    ensures { Parses (command_named table name.now (words text.now)) result bytes.new }
 {
-    if words::is_word(name, b"read") {
-        return with_bytes(Command::Read, line, at, MOST_BYTES, bytes);
+    match name {
+        "take" => with_bytes(Command::Take, MOST_BYTES, text, bytes),
+        "request" => request_call(text, bytes),
+        "cancel" => cancel_call(text, bytes),
+        "tick" => with_bytes(Command::Tick, NO_BYTES, text, bytes),
+        "restore" => with_bytes(Command::Restore, MOST_LENT, text, bytes),
+        "switch" => switch_call(text, bytes),
+        "get-paired" => lent(Writer::GetPaired, NO_BYTES, text, bytes),
+        "led" => led_call(text, bytes),
+        "list" => lent(Writer::List, NO_BYTES, text, bytes),
+        "store" => lent(Writer::Store, NO_BYTES, text, bytes),
+        "read" => with_bytes(Command::Read, MOST_BYTES, text, bytes),
+        "frame" => frame_call(text, bytes),
+        "mouse" => with_bytes(Command::Mouse, MOST_BYTES, text, bytes),
+        "dump" => with_bytes(Command::Dump, NO_BYTES, text, bytes),
+        _ => None,
     }
-    if words::is_word(name, b"frame") {
-        return frame_call(line, at, bytes);
-    }
-    if words::is_word(name, b"mouse") {
-        return with_bytes(Command::Mouse, line, at, MOST_BYTES, bytes);
-    }
-    if words::is_word(name, b"dump") {
-        return with_no_more(Command::Dump, line, at);
-    }
-    bare(Command::NoCall)
 }
 
-// The calls that write into a lent buffer, except a request; and those after them in the table.
-fn writer_call(name: &[u8], line: &[u8], at: usize, bytes: &mut [u8; MOST_LENT]) -> Parsed
-    ensures { Parses (command_named writer_rows name.now (words (drop at line.now))) result bytes.new }
-{
-    if words::is_word(name, b"switch") {
-        return switch_call(line, at);
-    }
-    if words::is_word(name, b"get-paired") {
-        return lent_alone(Writer::GetPaired, line, at);
-    }
-    if words::is_word(name, b"led") {
-        return led_call(line, at);
-    }
-    if words::is_word(name, b"list") {
-        return lent_alone(Writer::List, line, at);
-    }
-    if words::is_word(name, b"store") {
-        return lent_alone(Writer::Store, line, at);
-    }
-    other_call(name, line, at, bytes)
-}
-
-// The call of this name, whose other words start at `at`.
-fn named_call(name: &[u8], line: &[u8], at: usize, bytes: &mut [u8; MOST_LENT]) -> Parsed
-    ensures { Parses (command_named table name.now (words (drop at line.now))) result bytes.new }
-{
-    if words::is_word(name, b"take") {
-        return with_bytes(Command::Take, line, at, MOST_BYTES, bytes);
-    }
-    if words::is_word(name, b"request") {
-        return request_call(line, at, bytes);
-    }
-    if words::is_word(name, b"cancel") {
-        return cancel_call(line, at);
-    }
-    if words::is_word(name, b"tick") {
-        return with_no_more(Command::Tick, line, at);
-    }
-    if words::is_word(name, b"restore") {
-        return with_bytes(Command::Restore, line, at, MOST_LENT, bytes);
-    }
-    writer_call(name, line, at, bytes)
-}
-
-fn parse_call(text: &[u8], bytes: &mut [u8; MOST_LENT]) -> Parsed
+#[tactic(auto, using(crate::proofs::LineCallsLaws::no_text_named))]
+fn parse_call(text: &[u8], bytes: &mut [u8; MOST_LENT]) -> Option<Parsed>
     ensures { Parses (command_in (words text.now)) result bytes.new }
 {
-    let word = words::next_word(text, 0);
-    let start = word.start;
-    let end = word.end;
-    named_call(&text[start..end], text, end, bytes)
+    let (name, text) = words::next_word(text)?;
+    // Every name of a call is text.
+    let name = str::from_utf8(name).ok()?;
+    named_call(name, text, bytes)
 }
 
-// The end of a line without one carriage return.
-fn text_end(line: &[u8]) -> usize
-    ensures within { result ≤ length line.now }
-    ensures text { take result line.now ≡ without_return line.now }
+// A line without one carriage return at its end.
+#[tactic(auto, unfolding(crate::specs::LineCalls::without_return))]
+fn without_return(line: &[u8]) -> &[u8]
+    ensures { result.now ≡ without_return line.now }
 {
-    let end = line.len();
-    if end == 0 {
-        return 0;
+    match line {
+        [text @ .., RETURN] => text,
+        _ => line,
     }
-    if line[end - 1] == RETURN {
-        return end - 1;
-    }
-    end
+}
+
+// A command without bytes.
+fn bare(command: Command) -> Parsed
+    ensures { result ≡ record { command = command; count = 0 } }
+{
+    Parsed { command, count: 0 }
 }
 
 // Reads a line, which comes without its newline. The bytes of its call are put at the front of those that are lent; what is behind them is not to be relied on.
+#[tactic(auto, unfolding(crate::specs::LineCalls::line_rule, crate::specs::LineCalls::text_rule))]
 pub fn parse_line(line: &[u8], bytes: &mut [u8; MOST_LENT]) -> Parsed
     ensures call { parsed_command result bytes.new ≡ line_rule line.now }
     ensures within { result.count ≤ most_lent }
 {
-    let end = text_end(line);
-    let text = &line[..end];
-    if text.len() == 0 {
-        return bare(Command::Blank);
+    match without_return(line) {
+        [] | [b'#', ..] => bare(Command::Blank),
+        text => parse_call(text, bytes).unwrap_or(bare(Command::NoCall)),
     }
-    if text[0] == b'#' {
-        return bare(Command::Blank);
-    }
-    parse_call(text, bytes)
 }

@@ -1,79 +1,49 @@
-// The words of a line, by their offsets in it.
-ghost use Rattle.std.specs.Prelude.{◌≡◌, ◌≤◌, length, drop};
-ghost use Rattle.replay_line.specs.LineWords.{words, same_word, no_word};
-ghost use Rattle.replay_line.specs.LineContracts.{Skipped, Ended, NextWord};
+// The words of a text, one after another.
+ghost use Rattle.std.specs.Prelude.{◌≡◌, ◌≤◌, ◌==◌, length, drop, not};
+ghost use Rattle.std.specs.List.{prefix_len};
+ghost use Rattle.replay_line.specs.LineWords.{space, words, no_word};
+ghost use Rattle.replay_line.specs.LineContracts.{word_and_rest};
 
-pub const SPACE: u8 = b' ';
+const SPACE: u8 = b' ';
 
-// A word: from its start up to its end. Where no word is left, both are the end of the line.
-#[derive(Clone, Copy)]
-pub struct Word {
-    pub start: usize,
-    pub end: usize,
+// The number of spaces at the front of a text. One function for this and for `word_len`, given the test, would be no plainer: each is one line, and its contract would have to say what a call of the test gives.
+fn space_len(text: &[u8]) -> usize
+    ensures spaces { result ≡ prefix_len (λ c. c == space) text.now }
+    ensures within { result ≤ length text.now }
+{
+    text.iter().take_while(|c| **c == SPACE).count()
 }
 
-// The first offset from `at` on that holds no space.
-fn skip_spaces(line: &[u8], at: usize) -> usize
-    ensures { Skipped line.now at result }
+// A text from its first word on.
+fn skip_spaces(text: &[u8]) -> &[u8]
+    ensures { result.now ≡ drop (prefix_len (λ c. c == space) text.now) text.now }
 {
-    if line.len() < at {
-        return line.len();
-    }
-    let mut i = at;
-    while i < line.len() {
-        if line[i] != SPACE {
-            return i;
-        }
-        i += 1;
-    }
-    i
+    &text[space_len(text)..]
 }
 
-// The first offset from `start` on that holds a space.
-fn word_end(line: &[u8], start: usize) -> usize
-    requires { start ≤ length line.now }
-    ensures { Ended line.now start result }
+// The length of the word at the front of a text.
+fn word_len(text: &[u8]) -> usize
+    ensures word { result ≡ prefix_len (λ c. not (c == space)) text.now }
+    ensures within { result ≤ length text.now }
 {
-    let mut i = start;
-    while i < line.len() {
-        if line[i] == SPACE {
-            return i;
-        }
-        i += 1;
-    }
-    i
+    text.iter().take_while(|c| **c != SPACE).count()
 }
 
-// The first word from `at` on.
-pub fn next_word(line: &[u8], at: usize) -> Word
-    ensures word { NextWord line.now at result.start result.end }
+// The first word of a text, and the text after it.
+#[tactic(auto, using(crate::proofs::LineWordsLaws::no_words, crate::proofs::LineWordsLaws::first_word))]
+pub fn next_word(text: &[u8]) -> Option<(&[u8], &[u8])>
+    ensures word { word_and_rest result ≡ words text.now }
 {
-    let start = skip_spaces(line, at);
-    let end = word_end(line, start);
-    Word { start, end }
+    let text = skip_spaces(text);
+    if text.is_empty() {
+        return None;
+    }
+    Some(text.split_at(word_len(text)))
 }
 
-// Whether no word is left from `at` on.
-pub fn is_end(line: &[u8], at: usize) -> bool
-    ensures end { result ≡ no_word (words (drop at line.now)) }
+// Whether no word is left in a text.
+pub fn is_end(text: &[u8]) -> bool
+    ensures end { result ≡ no_word (words text.now) }
 {
-    let word = next_word(line, at);
-    word.start == word.end
-}
-
-// Whether a word is this one.
-pub fn is_word(word: &[u8], name: &[u8]) -> bool
-    ensures same { result ≡ same_word word.now name.now }
-{
-    if word.len() != name.len() {
-        return false;
-    }
-    let mut i = 0;
-    while i < word.len() {
-        if word[i] != name[i] {
-            return false;
-        }
-        i += 1;
-    }
-    true
+    next_word(text).is_none()
 }

@@ -1,26 +1,14 @@
--- `replay_line::fields::bytes_left` meets its contract: `count` bytes are read, and the words from an offset on are left.
-use mathlib.Core.Path.{sym}
-use native.Mathlib.Omega.{arith}
-use Rattle.replay_line.proofs.LineFieldsLaws.{collect_begun, collect_more, collect_stopped, collect_full}
+-- `replay_line::fields::bytes_left` meets its contract: `count` bytes are read, and the words of the rest are left.
+use Rattle.std.proofs.Common.{arith}
+use Rattle.std.proofs.lemmas.List.{set-get_or}
+use Rattle.replay_line.proofs.LineFieldsLaws.{collect_more, collect_stopped, collect_full}
 use Rattle.replay_line.proofs.fields.bytes_left.Goals as goal
 
-pub loop-count-init : goal.loop-count-init
-loop-count-init c = collect_begun _ _ _ _
-
-pub returns-in_default : goal.returns-in_default
-returns-in_default c = record {
-  bytes = collect_stopped c.loop-count.invariant c.requires (sym c.in_default.ensures.read) c.is_end.ensures.end;
-  within = c.loop-count.invariant.small;
-}
-
-pub bounds-bytes-count : goal.bounds-bytes-count
-bounds-bytes-count c = omega (arith, c.loop-count-test.true, c.loop-count.invariant.same, c.requires)
+pub returns-in_default-clause-bytes : goal.returns-in_default-clause-bytes
+returns-in_default-clause-bytes c = rw set-get_or (collect_stopped c.loop-count.invariant c.is_end.ensures.end (omega arith) c.then_some.ensures (omega arith) c.in_default.ensures.read)
 
 pub loop-count-preserved : goal.loop-count-preserved
-loop-count-preserved c = collect_more c.loop-count.invariant c.requires c.loop-count-test.true (sym c.in-Byte.ensures.read)
+loop-count-preserved c = collect_more c.loop-count.invariant (omega arith) c.in-Some.ensures.read
 
-pub returns : goal.returns
-returns c = record {
-  bytes = collect_full c.loop-count.invariant c.requires c.loop-count-test.false c.is_end-2.ensures.end;
-  within = c.loop-count.invariant.small;
-}
+pub returns-clause-bytes : goal.returns-clause-bytes
+returns-clause-bytes c = collect_full c.loop-count.invariant c.is_end-2.ensures.end (omega arith) c.then_some-2.ensures (omega arith) (omega arith)
