@@ -1,94 +1,86 @@
 // The line of what taking a report answered, put whole into a lent buffer, or not at all.
 #![tactic(auto)]
 
-ghost use Rattle.std.specs.Prelude.{[], ◌∷◌, ◌≡◌, ◌+◌, length};
-ghost use Rattle.text.specs.Putting.{filled, Puts, whole_rule};
-ghost use Rattle.port.specs.Answers.{reply, radio, failed, paired};
-ghost use Rattle.replay_fields.specs.AnswerFields.{line, line_end, about_most, answer_most};
+ghost use Rattle.std.specs.Prelude.{ℕ, List, [], ◌++◌, ◌+◌, length, Ok};
+ghost use Rattle.text.specs.Putting.{Outputs, OutputsWhole, PutsWith};
+ghost use Rattle.text.specs.Words.{decimal};
+ghost use Rattle.text.specs.Texts.{digits8, byte_most};
+ghost use Rattle.port.specs.Answers.{reply, failed};
+ghost use Rattle.replay_fields.specs.AnswerFields.{field, field_most, line, line_end, byte_text, about_most, answer_most};
 ghost use Rattle.replay_taken.specs.TakenLines.{about_text, notice_text, taken_text};
 ghost use Rattle.port.specs.PortContracts.{about_of, notice_of, kind_number, taken_of};
 
 use port::answer::{About, ErrorKind, Notice, Taken};
-use report::Device;
+use report::Refusal;
+use text::Out;
 
 // What every answer to a HID++ report carries.
-fn put_about(buffer: &mut [u8], at: usize, about: About) -> usize
-    ensures { Puts about_most (about_text (about_of about)) at buffer.old result buffer.new }
+fn put_about(out: &mut Out, about: About)
+    ensures { Outputs about_most (about_text (about_of about)) out.old out.new }
 {
-    let port = about.port;
-    let byte2 = about.byte2;
-    let at = replay_fields::put_number(buffer, at, b" port=", port.0);
-    let at = replay_fields::put_code(buffer, at, b" byte2=", byte2.0);
-    let at = replay_fields::put_code(buffer, at, b" byte3=", about.byte3);
-    let at = replay_fields::put_number(buffer, at, b" start=", about.start);
-    replay_fields::put_number(buffer, at, b" length=", about.length)
+    out.word(b" port=");
+    out.small(about.port.0);
+    out.word(b" byte2=");
+    replay_fields::put_code(out, about.byte2.0);
+    out.word(b" byte3=");
+    replay_fields::put_code(out, about.byte3);
+    out.word(b" start=");
+    out.small(about.start);
+    out.word(b" length=");
+    out.small(about.length)
 }
 
-// One of the answers that carry no more than that.
-fn put_carried(buffer: &mut [u8], at: usize, word: &[u8], about: About) -> usize
-    ensures { Puts (length word.now + (about_most + line_end)) (line (word.now ∷ about_text (about_of about) ∷ [])) at buffer.old result buffer.new }
+// The line of an answer to a HID++ report: a word, what each of them carries, and what `rest` puts.
+fn put_carried<F: FnOnce(&mut Out)>(out: &mut Out, word: &[u8], about: About, rest: F)
+    requires { F.IsAlwaysCallable rest }
+    ensures { (text : List ℕ) (most : ℕ) → PutsWith (F.post rest) most text → Outputs (length word.now + (about_most + (most + line_end))) (word.now ++ (about_text (about_of about) ++ (text ++ line []))) out.old out.new }
 {
-    let at = text::put_word(buffer, at, word);
-    let at = put_about(buffer, at, about);
-    text::put_byte(buffer, at, b'\n')
+    out.word(word);
+    put_about(out, about);
+    rest(out);
+    out.byte(b'\n')
+}
+
+// The number of requests that were dropped.
+fn put_dropped(out: &mut Out, dropped: u8)
+    ensures { Outputs (field_most "dropped" byte_most) (field "dropped" (decimal dropped)) out.old out.new }
+{
+    out.word(b" dropped=");
+    out.small(dropped)
 }
 
 // A reply also carries the number of requests that it dropped.
-fn put_reply(buffer: &mut [u8], at: usize, about: About, dropped: u8) -> usize
-    ensures { Puts answer_most (taken_text (reply dropped (about_of about))) at buffer.old result buffer.new }
+fn put_reply(out: &mut Out, about: About, dropped: u8)
+    ensures { Outputs answer_most (taken_text (reply dropped (about_of about))) out.old out.new }
 {
-    let at = text::put_word(buffer, at, b"reply");
-    let at = put_about(buffer, at, about);
-    let at = replay_fields::put_number(buffer, at, b" dropped=", dropped);
-    text::put_byte(buffer, at, b'\n')
+    put_carried(out, b"reply", about, |out| put_dropped(out, dropped))
 }
 
-fn put_failed(buffer: &mut [u8], at: usize, about: About, code: u8, kind: ErrorKind) -> usize
-    ensures { Puts answer_most (taken_text (failed (about_of about) code (kind_number kind))) at buffer.old result buffer.new }
+// An error also carries its code and its kind.
+fn put_error(out: &mut Out, code: u8, kind: ErrorKind)
+    ensures { Outputs (field_most "code" digits8 + field_most "kind" digits8) (field "code" (byte_text code) ++ field "kind" (byte_text (kind_number kind))) out.old out.new }
 {
-    let at = text::put_word(buffer, at, b"error");
-    let at = put_about(buffer, at, about);
-    let at = replay_fields::put_code(buffer, at, b" code=", code);
-    let at = replay_fields::put_code(buffer, at, b" kind=", kind.number());
-    text::put_byte(buffer, at, b'\n')
+    out.word(b" code=");
+    replay_fields::put_code(out, code);
+    out.word(b" kind=");
+    replay_fields::put_code(out, u8::from(kind))
 }
 
-fn put_radio(buffer: &mut [u8], at: usize, kind: u8, start: u8, length: u8) -> usize
-    ensures { Puts answer_most (taken_text (radio kind start length)) at buffer.old result buffer.new }
+fn put_failed(out: &mut Out, about: About, code: u8, kind: ErrorKind)
+    ensures { Outputs answer_most (taken_text (failed (about_of about) code (kind_number kind))) out.old out.new }
 {
-    let at = replay_fields::put_code(buffer, at, b"radio type=", kind);
-    let at = replay_fields::put_number(buffer, at, b" start=", start);
-    let at = replay_fields::put_number(buffer, at, b" length=", length);
-    text::put_byte(buffer, at, b'\n')
+    put_carried(out, b"error", about, |out| put_error(out, code, kind))
 }
 
-fn put_paired(
-    buffer: &mut [u8],
-    at: usize,
-    port: Device,
-    more: bool,
-    wpid: u16,
-    reports: u32,
-    dropped: u8,
-) -> usize
-    ensures { Puts answer_most (notice_text (paired port.0 more wpid reports dropped)) at buffer.old result buffer.new }
-{
-    let at = replay_fields::put_number(buffer, at, b"paired port=", port.0);
-    let at = replay_fields::put_flag(buffer, at, b" more=", more);
-    let at = replay_fields::put_wide(buffer, at, b" wpid=", text::DIGITS_16, wpid as usize);
-    let at = replay_fields::put_wide(buffer, at, b" reports=", text::DIGITS_32, reports as usize);
-    let at = replay_fields::put_number(buffer, at, b" dropped=", dropped);
-    text::put_byte(buffer, at, b'\n')
-}
-
-fn put_notice(buffer: &mut [u8], at: usize, notice: Notice) -> usize
-    ensures { Puts answer_most (notice_text (notice_of notice)) at buffer.old result buffer.new }
+fn put_notice(out: &mut Out, notice: Notice)
+    ensures { Outputs answer_most (notice_text (notice_of notice)) out.old out.new }
 {
     match notice {
         Notice::Unpaired { port, dropped } => {
-            let at = replay_fields::put_number(buffer, at, b"unpaired port=", port.0);
-            let at = replay_fields::put_number(buffer, at, b" dropped=", dropped);
-            text::put_byte(buffer, at, b'\n')
+            out.word(b"unpaired port=");
+            out.small(port.0);
+            put_dropped(out, dropped);
+            out.byte(b'\n')
         }
         Notice::Paired {
             port,
@@ -96,46 +88,74 @@ fn put_notice(buffer: &mut [u8], at: usize, notice: Notice) -> usize
             wpid,
             reports,
             dropped,
-        } => put_paired(buffer, at, port, more, wpid, reports, dropped),
-        Notice::EmptyList => text::put_word(buffer, at, b"empty-list\n"),
+        } => {
+            out.word(b"paired port=");
+            out.small(port.0);
+            out.word(b" more=");
+            replay_fields::put_flag(out, more);
+            out.word(b" wpid=");
+            out.hex(text::DIGITS_16, wpid as usize);
+            out.word(b" reports=");
+            out.hex(text::DIGITS_32, reports as usize);
+            put_dropped(out, dropped);
+            out.byte(b'\n')
+        }
+        Notice::EmptyList => out.word(b"empty-list\n"),
         Notice::Link { port, up } => {
-            let at = replay_fields::put_number(buffer, at, b"link port=", port.0);
-            let at = replay_fields::put_link(buffer, at, b" ", up);
-            text::put_byte(buffer, at, b'\n')
+            out.word(b"link port=");
+            out.small(port.0);
+            out.byte(b' ');
+            out.link(up);
+            out.byte(b'\n')
         }
         Notice::Other { port, kind } => {
-            let at = replay_fields::put_number(buffer, at, b"other port=", port.0);
-            let at = replay_fields::put_code(buffer, at, b" type=", kind);
-            text::put_byte(buffer, at, b'\n')
+            out.word(b"other port=");
+            out.small(port.0);
+            out.word(b" type=");
+            replay_fields::put_code(out, kind);
+            out.byte(b'\n')
         }
     }
 }
 
-fn put_taken_line(buffer: &mut [u8], at: usize, answer: Taken) -> usize
-    ensures { Puts answer_most (taken_text (taken_of answer)) at buffer.old result buffer.new }
+fn put_taken_line(out: &mut Out, taken: Taken)
+    ensures { Outputs answer_most (taken_text (taken_of (Ok taken))) out.old out.new }
 {
-    match answer {
-        Taken::Refused(refusal) => replay_fields::put_refused(buffer, at, refusal),
-        Taken::Reply { about, dropped } => put_reply(buffer, at, about, dropped),
-        Taken::Stray(about) => put_carried(buffer, at, b"stray", about),
-        Taken::Plain(about) => put_carried(buffer, at, b"plain", about),
-        Taken::Event(about) => put_carried(buffer, at, b"event", about),
-        Taken::Failed { about, code, kind } => put_failed(buffer, at, about, code, kind),
+    match taken {
+        Taken::Reply { about, dropped } => put_reply(out, about, dropped),
+        Taken::Stray(about) => put_carried(out, b"stray", about, |_| ()),
+        Taken::Plain(about) => put_carried(out, b"plain", about, |_| ()),
+        Taken::Event(about) => put_carried(out, b"event", about, |_| ()),
+        Taken::Failed { about, code, kind } => put_failed(out, about, code, kind),
         Taken::Radio {
             kind,
             start,
             length,
-        } => put_radio(buffer, at, kind, start, length),
-        Taken::Noticed(notice) => put_notice(buffer, at, notice),
+        } => {
+            out.word(b"radio type=");
+            replay_fields::put_code(out, kind);
+            out.word(b" start=");
+            out.small(start);
+            out.word(b" length=");
+            out.small(length);
+            out.byte(b'\n')
+        }
+        Taken::Noticed(notice) => put_notice(out, notice),
     }
 }
 
-// What taking a report answered. The offset after the line, or the same offset where there is less room than the longest answer takes.
-pub fn put_taken(buffer: &mut [u8], at: usize, answer: Taken) -> usize
-    ensures put { filled result buffer.new ≡ whole_rule answer_most (taken_text (taken_of answer)) at buffer.old }
+fn put_answer_line(out: &mut Out, answer: Result<Taken, Refusal>)
+    ensures { Outputs answer_most (taken_text (taken_of answer)) out.old out.new }
 {
-    if frame::fits(replay_fields::ANSWER, at, buffer.len()) {
-        return put_taken_line(buffer, at, answer);
+    match answer {
+        Ok(taken) => put_taken_line(out, taken),
+        Err(refusal) => replay_fields::put_refused(out, refusal),
     }
-    at
+}
+
+// What taking a report answered. Nothing where there is less room than the longest answer takes.
+pub fn put_taken(out: &mut Out, answer: Result<Taken, Refusal>)
+    ensures put { OutputsWhole answer_most (taken_text (taken_of answer)) out.old out.new }
+{
+    out.whole(replay_fields::ANSWER, |out| put_answer_line(out, answer))
 }

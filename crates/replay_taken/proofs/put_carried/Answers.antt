@@ -1,6 +1,6 @@
 -- `replay_taken::put_carried` meets its contract.
-use Rattle.text.proofs.PuttingLaws.{then_put}
+use Rattle.text.proofs.PuttingLaws.{then_out}
 use Rattle.replay_taken.proofs.put_carried.Goals as goal
 
 pub returns : goal.returns
-returns c = (then_put c.put_word-at.ensures.put (then_put c.put_about-at.ensures c.put_byte.ensures.put))
+returns g c = λ text most puts. then_out c.word.ensures.put (then_out c.put_about.ensures (then_out (puts _ _ c.rest.ensures) c.byte.ensures.put))

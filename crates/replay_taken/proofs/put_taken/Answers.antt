@@ -1,13 +1,8 @@
 -- `replay_taken::put_taken` meets its contract.
-use Rattle.text.proofs.PuttingLaws.{put_with_room, put_without_room}
+use Rattle.std.proofs.Common.{rules}
+use Rattle.port.specs.PortContracts.{taken_of}
+use Rattle.replay_taken.specs.TakenLines.{taken_text}
 use Rattle.replay_taken.proofs.put_taken.Goals as goal
 
-pub returns-then-fits : goal.returns-then-fits
-returns-then-fits c = record {
-  put = put_with_room c.put_taken_line.ensures c.fits.ensures.fitting c.if-fits.true;
-}
-
 pub returns : goal.returns
-returns c = record {
-  put = put_without_room _ _ _ _ c.fits.ensures.fitting c.if-fits.false;
-}
+returns c = record { put = c.whole.ensures.whole (taken_text (taken_of c.args.answer)) (λ o o₁ put. search rules) }
