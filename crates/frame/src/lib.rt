@@ -198,7 +198,12 @@ fn dj_head(device: Device, kind: u8, p0: u8) -> Head
 
 // Writes the switch command: refusals 14 and 10.
 #[tactic(auto, using(crate::proofs::WritingLaws::dj_frame), unfolding(crate::specs::Writing::switch_rule))]
-pub fn switch_frame(bits: u8, timeout: u8, buffer: &mut [u8], offset: usize) -> Result<usize, Refusal>
+pub fn switch_frame(
+    bits: u8,
+    timeout: u8,
+    buffer: &mut [u8],
+    offset: usize,
+) -> Result<usize, Refusal>
     ensures outcome { written_outcome result buffer.new ≡ switch_rule bits timeout offset buffer.old }
 {
     if has_reserved_bits(bits) {
@@ -230,7 +235,12 @@ pub fn get_paired_frame(buffer: &mut [u8], offset: usize) -> Result<usize, Refus
 
 // Writes the keyboard LEDs of a device: refusals 5 and 10.
 #[tactic(auto, using(crate::proofs::WritingLaws::dj_frame), unfolding(crate::specs::Writing::led_rule))]
-pub fn led_frame(device: Device, leds: u8, buffer: &mut [u8], offset: usize) -> Result<usize, Refusal>
+pub fn led_frame(
+    device: Device,
+    leds: u8,
+    buffer: &mut [u8],
+    offset: usize,
+) -> Result<usize, Refusal>
     ensures outcome { written_outcome result buffer.new ≡ led_rule device.0 leds offset buffer.old }
 {
     if !report::is_device(device) {

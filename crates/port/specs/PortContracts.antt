@@ -15,6 +15,7 @@ use Rattle.port.specs.declared.answer.Notice.{Notice}
 use Rattle.port.specs.declared.answer.Notice.TheVariants.{Unpaired, Paired, EmptyList, Link, Other}
 use Rattle.port.specs.declared.answer.Taken.{Taken}
 use Rattle.port.specs.declared.answer.Taken.TheVariants.{Reply, Stray, Plain, Event, Failed, Radio, Noticed}
+
 abbrev pub kind_number : ErrorKind → ℕ
 kind_number Hidpp1 = rules.error1
 kind_number Hidpp2 = rules.error2

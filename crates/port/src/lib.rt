@@ -134,11 +134,7 @@ pub fn is_match(request: Request, byte2: FeatureIndex, byte3: u8) -> bool
 }
 
 // The lowest place where a request with these bytes 2 and 3 waits.
-pub fn first_match(
-    places: [Request; PLACES],
-    byte2: FeatureIndex,
-    byte3: u8,
-) -> Option<usize>
+pub fn first_match(places: [Request; PLACES], byte2: FeatureIndex, byte3: u8) -> Option<usize>
     ensures lowest { result ≡ position (matches byte2.0 byte3) places }
     ensures searched { Finds (matches byte2.0 byte3) places result }
 {

@@ -17,11 +17,7 @@ pub fn end_at(port: Port, place: usize) -> Port
 
 // The lowest empty place, unless a request with these bytes 2 and 3 waits already.
 #[tactic(auto, unfolding(crate::specs::Waiting::room_for))]
-pub fn room_for(
-    places: [Request; PLACES],
-    byte2: FeatureIndex,
-    byte3: u8,
-) -> Result<usize, Refusal>
+pub fn room_for(places: [Request; PLACES], byte2: FeatureIndex, byte3: u8) -> Result<usize, Refusal>
     ensures admission { room_of result ≡ room_for places byte2.0 byte3 }
 {
     if crate::first_match(places, byte2, byte3).is_some() {

@@ -161,7 +161,14 @@ impl Station {
     {
         let position = position_of(device);
         let requested = request::request_at(
-            self.ports[position], device, byte2, byte3, ticks, params, buffer, offset,
+            self.ports[position],
+            device,
+            byte2,
+            byte3,
+            ticks,
+            params,
+            buffer,
+            offset,
         );
         self.ports[position] = requested.next;
         Called {
@@ -207,7 +214,13 @@ impl Station {
     }
 
     // Writes the switch command: refusals 14 and 10. The station stays as it is.
-    pub fn switch(self, bits: u8, timeout: u8, buffer: &mut [u8], offset: usize) -> Result<usize, Refusal>
+    pub fn switch(
+        self,
+        bits: u8,
+        timeout: u8,
+        buffer: &mut [u8],
+        offset: usize,
+    ) -> Result<usize, Refusal>
         ensures outcome { SwitchPromise bits timeout offset buffer.old result buffer.new }
     {
         frame::switch_frame(bits, timeout, buffer, offset)
@@ -221,7 +234,13 @@ impl Station {
     }
 
     // Writes the keyboard LEDs of a device: refusals 5 and 10. The station stays as it is.
-    pub fn led(self, device: Device, leds: u8, buffer: &mut [u8], offset: usize) -> Result<usize, Refusal>
+    pub fn led(
+        self,
+        device: Device,
+        leds: u8,
+        buffer: &mut [u8],
+        offset: usize,
+    ) -> Result<usize, Refusal>
         ensures outcome { LedPromise device.0 leds offset buffer.old result buffer.new }
     {
         frame::led_frame(device, leds, buffer, offset)

@@ -14,4 +14,4 @@ returns c =
     let long : length c.map.result ≡ place_count = c.map.ensures.items.long in
     let placed : length c.args.places ≡ place_count = omega arith in
     let next : c.map.result ≡ map after_tick c.args.places = ext_get_or (after_tick empty_place) _ _ (long ∙ sym (length-map c.args.places after_tick ∙ placed)) (λ i h. each i (omega (arith, long)) ∙ sym (get_or-map after_tick c.args.places i empty_place)) in
-    record { ticked = ticked _ next c.count_ending.ensures; }
+    record { ticked = ticked _ next c.count_ending.ensures }

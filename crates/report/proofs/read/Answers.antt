@@ -14,7 +14,7 @@ pub returns-then-bytes-from : goal.returns-then-bytes-from
 unfolding read_rule
 returns-then-bytes-from c =
     let known = found_sized _ _ c.in-Some.ensures.length in
-    record { reading = simp (sym c.is_empty.ensures ∙ c.if-is_empty.false, known.0, ne_eqb _ _ (λ z. c.if-bytes-from.true (z ∙ sym (c.from.ensures ∙ known.1.0)))); }
+    record { reading = simp (sym c.is_empty.ensures ∙ c.if-is_empty.false, known.0, ne_eqb _ _ (λ z. c.if-bytes-from.true (z ∙ sym (c.from.ensures ∙ known.1.0)))) }
 
 pub read_sized-requires-clause-long : goal.read_sized-requires-clause-long
 read_sized-requires-clause-long c = (found_sized _ _ c.in-Some.ensures.length).1.1
@@ -23,4 +23,4 @@ pub returns : goal.returns
 unfolding read_rule
 returns c =
     let known = found_sized _ _ c.in-Some.ensures.length in
-    record { reading = simp (sym c.is_empty.ensures ∙ c.if-is_empty.false, known.0, eq-eqb _ _ (c.if-bytes-from.false ∙ (c.from.ensures ∙ known.1.0))) c.read_sized.ensures; }
+    record { reading = simp (sym c.is_empty.ensures ∙ c.if-is_empty.false, known.0, eq-eqb _ _ (c.if-bytes-from.false ∙ (c.from.ensures ∙ known.1.0))) c.read_sized.ensures }

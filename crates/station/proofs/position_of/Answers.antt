@@ -15,4 +15,4 @@ returns-then-is_device c =
 pub returns-else-is_device : goal.returns-else-is_device
 returns-else-is_device c =
     let known = other_position c.args.device.0 (sym c.is_device.ensures.named ∙ c.if-is_device.false) in
-    record { position = known.0; within = known.1; }
+    record { position = known.0; within = known.1 }

@@ -8,9 +8,9 @@ use Rattle.port.proofs.waiting.room_for.Goals as goal
 pub returns-then-is_some : goal.returns-then-is_some
 returns-then-is_some c =
     let placed : length c.args.places ≡ place_count = omega arith in
-    record { admission = taken _ placed _ _ _ c.first_match.ensures.lowest (sym c.is_some.ensures ∙ c.if-is_some.true); }
+    record { admission = taken _ placed _ _ _ c.first_match.ensures.lowest (sym c.is_some.ensures ∙ c.if-is_some.true) }
 
 pub returns : goal.returns
 returns c =
     let placed : length c.args.places ≡ place_count = omega arith in
-    record { admission = ap room_of c.ok_or.ensures.value ∙ room_left _ placed _ _ _ c.first_match.ensures.lowest (sym c.is_some.ensures ∙ c.if-is_some.false) _ c.first_empty.ensures.lowest; }
+    record { admission = ap room_of c.ok_or.ensures.value ∙ room_left _ placed _ _ _ c.first_match.ensures.lowest (sym c.is_some.ensures ∙ c.if-is_some.false) _ c.first_empty.ensures.lowest }

@@ -15,4 +15,4 @@ returns c =
     let counts : c.map.result ≡ map ended_on c.args.self.ports = ext_get_or (ended_on no_port) _ _ (c.map.ensures.items.long ∙ sym (length-map c.args.self.ports ended_on ∙ placed)) (λ i h. each_count i (omega (arith, c.map.ensures.items.long)) ∙ sym (get_or-map ended_on c.args.self.ports i no_port)) in
     let each_port : (i : ℕ) → i < port_count → get_or c.map-2.result i (ticked_port no_port) ≡ ticked_port (get_or c.args.self.ports i no_port) = λ i h. let called = c.map-2.ensures.items.at i no_port (ticked_port no_port) h in search (rules, of_calls) in
     let ports : c.map-2.result ≡ map ticked_port c.args.self.ports = ext_get_or (ticked_port no_port) _ _ (c.map-2.ensures.items.long ∙ sym (length-map c.args.self.ports ticked_port ∙ placed)) (λ i h. each_port i (omega (arith, c.map-2.ensures.items.long)) ∙ sym (get_or-map ticked_port c.args.self.ports i no_port)) in
-    record { outcome = ports_ticked _ ports counts; }
+    record { outcome = ports_ticked _ ports counts }
