@@ -1,13 +1,7 @@
 -- `replay_dump::put_dump` meets its contract.
-use Rattle.text.proofs.PuttingLaws.{put_with_room, put_without_room}
+use Rattle.std.proofs.Common.{rules}
+use Rattle.replay_dump.specs.DumpLines.{dump_text}
 use Rattle.replay_dump.proofs.put_dump.Goals as goal
 
-pub returns-then-fits : goal.returns-then-fits
-returns-then-fits c = record {
-  put = put_with_room c.put_ports.ensures c.fits.ensures.fitting c.if-fits.true;
-}
-
 pub returns : goal.returns
-returns c = record {
-  put = put_without_room _ _ _ _ c.fits.ensures.fitting c.if-fits.false;
-}
+returns c = record { put = c.whole.ensures.whole (dump_text c.args.station.now) (λ o o₁ put. search rules) }
