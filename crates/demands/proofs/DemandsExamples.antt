@@ -17,7 +17,7 @@ use Rattle.port.specs.declared.Port.{Port}
 use Rattle.port.specs.declared.Request.{Request}
 use Rattle.port.specs.Records.{empty_place, fresh_port, made_fresh, request_in, with_pairing, with_serial}
 use Rattle.port.specs.Places.{is_empty, matches}
-use Rattle.port.proofs.SearchingExamples.{twins, lower_twin}
+use Rattle.port.proofs.SearchingExamples.{twins, lower_found}
 use Rattle.port.specs.Answers as answers
 use Rattle.port.specs.PortContracts.{taken_of}
 use Rattle.port.proofs.first_match.Reads as match_reads
@@ -72,7 +72,7 @@ use Rattle.reach.specs.RefusalTable.{by_port, led5, RefusalRow, RefusedWith}
 use Rattle.reach.specs.Completion.{is_reply, is_failure, is_hidpp_read, Replies, Fails, read_ends, Swaps, ends_in}
 use Rattle.reach.specs.Ends.{by_reply, by_error, by_expiry, by_cancel, by_drop, ending_of, ended_in_all, waiting_on, ended_in, begun_in}
 use Rattle.reach.specs.Fields.{battery}
-use Rattle.encoded.specs.declared.RunResult.{RunResult}
+use Rattle.encoded.specs.EncodedContracts.{RunCalled}
 use Rattle.encoded.specs.Decoding.{calls, decode}
 use Rattle.encoded.specs.Encoding.{Bytes}
 use Rattle.encoded.specs.EncodedRuns.{rows_size, EncodedOutcome, ran, ReadsBack}
@@ -172,20 +172,20 @@ module _ (d : Demands) where
   c_moves = d.without_station.mouse
 
   -- of two equal places, 1 and 3, each search gives the lower
-  module _ (hit other : Request) (found : ℕ) where
+  module _ (hit other : Request) (found : Option ℕ) where
     abbrev both_match : List Request
     both_match = twins hit other
 
-    lower_waiting : (byte2 : FeatureIndex) (byte3 : ℕ) → matches byte2.0 byte3 hit ≡ true → matches byte2.0 byte3 other ≡ false → match_reads.Learnt tt (both_match, (byte2, (byte3, tt))) found (both_match, (byte2, (byte3, tt))) → found ≡ 1
+    lower_waiting : (byte2 : FeatureIndex) (byte3 : ℕ) → matches byte2.0 byte3 hit ≡ true → matches byte2.0 byte3 other ≡ false → match_reads.Learnt tt (both_match, (byte2, (byte3, tt))) found (both_match, (byte2, (byte3, tt))) → found ≡ Some 1
     lower_waiting byte2 byte3 p q e =
-        lower_twin (matches byte2.0 byte3) hit other p q found (d.searches.waiting both_match byte2 byte3 found e)
+        lower_found (matches byte2.0 byte3) hit other p q found (d.searches.waiting both_match byte2 byte3 found e)
 
-    lower_empty : is_empty hit ≡ true → is_empty other ≡ false → empty_reads.Learnt tt (both_match, tt) found (both_match, tt) → found ≡ 1
-    lower_empty p q e = lower_twin is_empty hit other p q found (d.searches.empty both_match found e)
+    lower_empty : is_empty hit ≡ true → is_empty other ≡ false → empty_reads.Learnt tt (both_match, tt) found (both_match, tt) → found ≡ Some 1
+    lower_empty p q e = lower_found is_empty hit other p q found (d.searches.empty both_match found e)
 
-    lower_answered : (m : Message) → matching.answers m hit ≡ true → matching.answers m other ≡ false → answered_reads.Learnt tt (both_match, (m, tt)) found (both_match, (m, tt)) → found ≡ 1
+    lower_answered : (m : Message) → matching.answers m hit ≡ true → matching.answers m other ≡ false → answered_reads.Learnt tt (both_match, (m, tt)) found (both_match, (m, tt)) → found ≡ Some 1
     lower_answered m p q e =
-        lower_twin (matching.answers m) hit other p q found (d.searches.answered both_match m found e)
+        lower_found (matching.answers m) hit other p q found (d.searches.answered both_match m found e)
 
   -- a report for a ping of device 2, by its third parameter, and what its answer carries; and one for a ping of the receiver, which is long
   abbrev ping_reply : ℕ → List ℕ
@@ -495,7 +495,7 @@ module _ (d : Demands) where
   last_made st ms m k = (d.cut st ms (m ∷ []) k).1.0
 
   -- encoded calls end with the station of the rules' run, and their rows are its answers
-  module _ (κ κ' κ'' : List ℕ) (st : Station) (encoded : Bor (List ℕ)) (arena arena_after answers answers_after : MutBor (List ℕ)) (r : RunResult) (e : run_reads.Learnt (κ, (κ', (κ'', tt))) (st, (encoded, (arena, (answers, tt)))) r (st, (encoded, (arena_after, (answers_after, tt))))) (cs : List Call) (decoded : decode encoded.now arena.now ≡ calls cs) (room : rows_size cs ≤ length answers.now) where
+  module _ (κ κ' κ'' : List ℕ) (st : Station) (encoded : Bor (List ℕ)) (arena arena_after answers answers_after : MutBor (List ℕ)) (r : RunCalled) (e : run_reads.Learnt (κ, (κ', (κ'', tt))) (st, (encoded, (arena, (answers, tt)))) r (st, (encoded, (arena_after, (answers_after, tt))))) (cs : List Call) (decoded : decode encoded.now arena.now ≡ calls cs) (room : rows_size cs ≤ length answers.now) where
     run_ends : r.next ≡ run st cs
     unfolding ran
     run_ends = ap (λ (o : EncodedOutcome). o.station) (d.runs κ κ' κ'' st encoded arena arena_after answers answers_after r e cs decoded room)

@@ -42,7 +42,7 @@ use Rattle.reach.specs.Complete.{Complete}
 use Rattle.reach.specs.Completion.{is_reply, is_failure, is_hidpp_read, Replies, OtherPing, Fails, Swaps, Told, ends_in}
 use Rattle.reach.specs.Ends.{EndsAt, Accounted}
 use Rattle.reach.specs.Fields.{ChangesListed}
-use Rattle.encoded.specs.declared.RunResult.{RunResult}
+use Rattle.encoded.specs.EncodedContracts.{RunCalled}
 use Rattle.encoded.specs.Decoding.{calls, decode}
 use Rattle.encoded.specs.Encoding.{Bytes}
 use Rattle.encoded.specs.EncodedRuns.{rows_size, ran, ReadsBack}
@@ -124,8 +124,8 @@ pub record Demands : Type 0 where
   -- Over every sequence, up to the next accepted read, and for each port: requests accepted are those answered by reply, by error, expired, cancelled, dropped, and those that wait, counted from the answers given. Those that wait when a read is accepted are lost uncounted
   pub accounted : (n : ℕ) → is_port n ≡ true → (st : Station) → Start st → (ms : List Made) → History st ms → Unread (map call_of ms) → Accounted n (made st ms) (port_for (station_after st ms) n)
   -- A run of encoded calls by the program, `encoded::run_encoded`: where the bytes are calls and there is room for their answers, the final station, every lent byte and every row, which is one answer in ten bytes, are those of the rules' run; and where the station has seven ports and all that is lent are bytes, the rows read back as the answers
-  pub runs : (κ κ' κ'' : List ℕ) (st : Station) (encoded : Bor (List ℕ)) (arena arena_after answers answers_after : MutBor (List ℕ)) (r : RunResult) → run_reads.Learnt (κ, (κ', (κ'', tt))) (st, (encoded, (arena, (answers, tt)))) r (st, (encoded, (arena_after, (answers_after, tt)))) → (cs : List Call) → decode encoded.now arena.now ≡ calls cs → rows_size cs ≤ length answers.now → outcome_of r arena_after.now answers_after.now ≡ ran st cs answers.now
-  pub rows : (κ κ' κ'' : List ℕ) (st : Station) (encoded : Bor (List ℕ)) (arena arena_after answers answers_after : MutBor (List ℕ)) (r : RunResult) → run_reads.Learnt (κ, (κ', (κ'', tt))) (st, (encoded, (arena, (answers, tt)))) r (st, (encoded, (arena_after, (answers_after, tt)))) → length st.ports ≡ port_count → (cs : List Call) → decode encoded.now arena.now ≡ calls cs → rows_size cs ≤ length answers.now → Bytes encoded.now → Bytes arena.now → ReadsBack st cs answers_after.now
+  pub runs : (κ κ' κ'' : List ℕ) (st : Station) (encoded : Bor (List ℕ)) (arena arena_after answers answers_after : MutBor (List ℕ)) (r : RunCalled) → run_reads.Learnt (κ, (κ', (κ'', tt))) (st, (encoded, (arena, (answers, tt)))) r (st, (encoded, (arena_after, (answers_after, tt)))) → (cs : List Call) → decode encoded.now arena.now ≡ calls cs → rows_size cs ≤ length answers.now → outcome_of r arena_after.now answers_after.now ≡ ran st cs answers.now
+  pub rows : (κ κ' κ'' : List ℕ) (st : Station) (encoded : Bor (List ℕ)) (arena arena_after answers answers_after : MutBor (List ℕ)) (r : RunCalled) → run_reads.Learnt (κ, (κ', (κ'', tt))) (st, (encoded, (arena, (answers, tt)))) r (st, (encoded, (arena_after, (answers_after, tt)))) → length st.ports ≡ port_count → (cs : List Call) → decode encoded.now arena.now ≡ calls cs → rows_size cs ≤ length answers.now → Bytes encoded.now → Bytes arena.now → ReadsBack st cs answers_after.now
   -- What is gathered of the rules alone, of every station and of every list of calls: their cases, their refusals, what they end and change; and each port by itself, any two orders, and which calls have an encoding
   pub of_the_rules : Complete
   -- of the store: what reading and writing come to for every text and all ports, and that the texts that are accepted are exactly those that the writer writes for some station that calls reach

@@ -13,6 +13,7 @@ pub const SHORT_PARAMS: usize = 3;
 
 pub const LONG_PARAMS: usize = 16;
 
+// Sub ids and DJ types, as bytes: see crate report.
 pub const SET_REGISTER: u8 = 0x80;
 
 pub const GET_REGISTER: u8 = 0x81;

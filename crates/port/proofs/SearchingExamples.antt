@@ -1,8 +1,8 @@
 -- Document 02, Ask 4, worked: of two equal places the lower is given; and what a search gives that keeps the last match, or stops one place short, is not what is asked for.
-use Rattle.std.specs.Prelude.{ℕ, zero, suc, ◌≡◌, Bool, true, false, cond, ◌&&◌, List, [], ◌∷◌, length, eqb}
+use Rattle.std.specs.Prelude.{ℕ, zero, suc, ◌≡◌, Bool, true, false, cond, ◌&&◌, List, [], ◌∷◌, length, eqb, Option, Some}
 use Rattle.std.proofs.Common.{le_of_suc-le-suc, not-suc-le-zero, arith, lit<}
 use Rattle.port.specs.declared.Request.{Request}
-use Rattle.port.specs.Searching.{NoneBelow, Lowest, Searches}
+use Rattle.port.specs.Searching.{NoneBelow, Lowest, Searches, Finds}
 
 -- places of a request that matches, and of one that does not
 module _ (hit other : Request) where
@@ -23,6 +23,9 @@ module _ (test : Request → Bool) (hit other : Request) (passes : test hit ≡ 
 
   pub lower_twin : (found : ℕ) → Searches test (twins hit other) found → found ≡ 1
   lower_twin found s = (s.lowest 1 (lit< tt)).1 twin
+
+  pub lower_found : (found : Option ℕ) → Finds test (twins hit other) found → found ≡ Some 1
+  lower_found found s = (s.lowest 1).1 (lit< tt, twin)
 
   -- all of them match
   pub lowest_of_all : (found : ℕ) → Searches test (hit ∷ hit ∷ hit ∷ hit ∷ []) found → found ≡ 0

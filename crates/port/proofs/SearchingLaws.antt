@@ -3,7 +3,7 @@ use Prim.Native.Nat.{ℕ, zero, suc, ◌+◌, ◌≤◌, ◌<◌}
 use Rattle.std.specs.Prelude.{◌≡◌, Bool, get_or, ltb, position, Option, Some, None}
 use Rattle.std.proofs.Math.Path.{refl}
 use Rattle.std.proofs.Common.{sym, ◌∙◌, ap, subst, true≢false, le_of_suc-le-suc, not-suc-le-zero, ltb-true, ltb-false}
-use Rattle.std.proofs.lemmas.Option.{cond_some, none-some}
+use Rattle.std.proofs.lemmas.Option.{cond_some, none-some, same_Some}
 use Rattle.std.proofs.lemmas.List.Recursion.{is_position_or_len}
 use Rattle.std.proofs.Math.Bool.{true, false, cond}
 use mathlib.Core.List.{List, [], ◌∷◌}
@@ -14,7 +14,7 @@ use Rattle.report.proofs.ChoicesLaws.{by_case}
 use Rattle.port.specs.declared.Request.{Request}
 use Rattle.port.specs.Records.{request_in}
 use Rattle.port.specs.Places.{first_at}
-use Rattle.port.specs.Searching.{NoneBelow, Lowest, Searches, SearchesExactly, Finds}
+use Rattle.port.specs.Searching.{NoneBelow, Lowest, Searches, SearchesExactly, Finds, place_or}
 
 -- what is read of a place does not depend on what is read past the last
 in_place : (places : List Request) (i : ℕ) (d : Request) → i < length places → request_in places i ≡ get_or places i d
@@ -179,3 +179,17 @@ finds test places {found} e =
         let past = none_first test places n in
         absurd (omega arith)
     nothing None z n = refl
+
+-- and the number that stands for it is what the words say of a number
+pub searches_of : (test : Request → Bool) (places : List Request) (found : Option ℕ) → Finds test places found → Searches test places (place_or places found)
+searches_of test places (Some found) f =
+    let it = (f.lowest found).0 refl in
+    record {
+      lowest = λ place h. (λ e. subst (Lowest test places) e it.1, λ l. same_Some _ _ ((f.lowest place).1 (h, l)));
+      none = (λ e. absurd (omega (arith, e, it.0)), λ n. absurd (none-some _ (sym (f.none.1 n))));
+    }
+searches_of test places None f =
+    record {
+      lowest = λ place h. (λ e. absurd (omega (arith, e, h)), λ l. absurd (none-some _ ((f.lowest place).1 (h, l))));
+      none = (λ e. f.none.0 refl, λ n. refl);
+    }

@@ -26,3 +26,8 @@ SearchesExactly test places found = (found ≡ first_at test places) ↔ Searche
 pub record Finds (test : Request → Bool) (places : List Request) (found : Option ℕ) : Type 0 where
   pub lowest : (place : ℕ) → (found ≡ Some place) ↔ (place < length places) × Lowest test places place
   pub none : (found ≡ None) ↔ NoneBelow test places (length places)
+
+-- the same as a number: the number of places stands for none
+abbrev pub place_or : List Request → Option ℕ → ℕ
+place_or places (Some place) = place
+place_or places None = length places

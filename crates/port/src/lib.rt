@@ -240,6 +240,7 @@ pub fn with_feature(
     features
 }
 
+// A port with one thing of it changed: a function for each, since the rules and the wrong programs name each (`with_version` and the like in specs/Records.antt).
 #[tactic(auto, unfolding(crate::specs::Records::with_version))]
 pub fn with_version(port: Port, version: Option<Version>) -> Port
     ensures changed { result ≡ with_version port version }

@@ -48,6 +48,7 @@ impl From<Refusal> for u8 {
     }
 }
 
+// The ids, types and sub ids are bytes, and no enums: a report may have any, and C is given them as they are (the fields `id` and `byte2` of `blotterfinch_report`).
 pub const HIDPP_SHORT: u8 = 0x10;
 
 pub const HIDPP_LONG: u8 = 0x11;
@@ -93,7 +94,7 @@ pub struct HidppReport {
     pub length: u8,
 }
 
-// A DJ report: its bytes 0 to 3, byte 2 being the type and byte 3 the first parameter.
+// A DJ report: its bytes 0 to 3, byte 2 being the type and byte 3 the first parameter. A type of its own, and not the one above over a type parameter: its bytes 2 and 3 have other names.
 #[derive(Clone, Copy)]
 pub struct DjReport {
     pub id: u8,
