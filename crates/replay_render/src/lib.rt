@@ -1,27 +1,24 @@
 // The lines of text that replay's answers become, except those of a taken report and of a dump, each put whole into a lent buffer, or not at all.
 #![tactic(auto)]
 
-ghost use Rattle.std.specs.Prelude.{◌≡◌, ◌*◌, length};
+ghost use Rattle.std.specs.Prelude.{◌≡◌, ◌≤◌, ◌^◌, IfSome, IfNone, length};
 ghost use Rattle.mouse.specs.Movement.{moved};
 ghost use Rattle.mouse.specs.MouseContracts.{moved_of};
 ghost use Rattle.text.specs.Words.{decimal};
-ghost use Rattle.frame.specs.Writing.{fits_at};
-ghost use Rattle.text.specs.Putting.{filled, Puts, whole_rule};
-ghost use Rattle.text.specs.Texts.{each, byte_most};
-ghost use Rattle.station.specs.Stations.{port_count};
-ghost use Rattle.replay_fields.specs.AnswerFields.{spaced, spaced_most, answer_most};
-ghost use Rattle.replay_render.specs.AnswerLines.{lent_text, lent_most, outcome_text, outcome_most, written_text, written_most, cancelled_text, ended_text, restored_text, report_text, reading_text, moved_text, no_call_text};
+ghost use Rattle.text.specs.Putting.{Outputs, OutputsWhole};
+ghost use Rattle.text.specs.Texts.{byte_most};
+ghost use Rattle.replay_fields.specs.AnswerFields.{byte_text, spaced, spaced_most, answer_most};
+ghost use Rattle.replay_render.specs.AnswerLines.{lent_most, outcome_text, outcome_most, written_text, written_most, cancelled_text, ended_text, restored_text, report_text, reading_text, moved_text, no_call_text};
 ghost use Rattle.port.specs.PortContracts.{cancel_of};
-ghost use Rattle.report.specs.ReportContracts.{number_of, dj_of, reading_of};
+ghost use Rattle.report.specs.ReportContracts.{number_of, hidpp_of, dj_of, reading_of};
 ghost use Rattle.frame.specs.FrameContracts.{written_of};
 ghost use Rattle.restore.specs.Restoring.{refused_at};
 ghost use Rattle.restore.specs.RestoreContracts.{restored_of};
 
-use frame::Written;
-use mouse::{Motion, Moved};
-use port::waiting::Cancelled;
-use report::{Device, DjReport, Reading, Refusal};
+use mouse::Motion;
+use report::{DjReport, FeatureIndex, HidppReport, Reading, Refusal};
 use restore::NotRestored;
+use text::Out;
 
 // Room for the longest line, except a writer's.
 const ANSWER: usize = replay_fields::ANSWER;
@@ -31,252 +28,213 @@ const LENT_BYTE: usize = 1 + text::DIGITS_8 as usize;
 
 const WRITTEN: usize = 8 + text::NUMBER_MOST + 1 + 1;
 
-// Each byte after a space.
-fn put_lent(buffer: &mut [u8], at: usize, lent: &[u8]) -> usize
-    ensures { Puts (lent_most * length lent.now) (lent_text lent.now) at buffer.old result buffer.new }
+// A lent byte after a space.
+fn put_lent(out: &mut Out, position: usize, byte: &u8)
+    ensures { Outputs lent_most (spaced byte_text position byte.now) out.old out.new }
 {
-    let mut next = at;
-    let mut i = 0;
-    while i < lent.len() {
-        next = replay_fields::put_code(buffer, next, b" ", lent[i]);
-        i += 1;
-    }
-    next
+    out.byte(b' ');
+    replay_fields::put_code(out, *byte)
 }
 
-fn put_outcome(buffer: &mut [u8], at: usize, word: &[u8], n: usize, lent: &[u8]) -> usize
-    ensures { Puts (outcome_most word.now (length lent.now)) (outcome_text word.now n lent.now) at buffer.old result buffer.new }
+fn put_outcome(out: &mut Out, word: &[u8], n: usize, lent: &[u8])
+    ensures { Outputs (outcome_most word.now (length lent.now)) (outcome_text word.now n lent.now) out.old out.new }
 {
-    let at = replay_fields::put_count(buffer, at, word, n);
-    let at = text::put_byte(buffer, at, b':');
-    let at = put_lent(buffer, at, lent);
-    text::put_byte(buffer, at, b'\n')
+    out.word(word);
+    out.decimal(n);
+    out.byte(b':');
+    out.each(lent, put_lent);
+    out.byte(b'\n')
 }
 
-fn put_written_line(buffer: &mut [u8], at: usize, answer: Written, lent: &[u8]) -> usize
-    ensures { Puts (written_most (length lent.now)) (written_text (written_of answer) lent.now) at buffer.old result buffer.new }
+fn put_written_line(out: &mut Out, answer: Result<usize, Refusal>, lent: &[u8])
+    ensures { Outputs (written_most (length lent.now)) (written_text (written_of answer) lent.now) out.old out.new }
 {
     match answer {
-        Written::Refused(refusal) => {
-            put_outcome(buffer, at, b"refused ", refusal.number() as usize, lent)
-        }
-        Written::Bytes(size) => put_outcome(buffer, at, b"wrote ", size, lent),
+        Ok(size) => put_outcome(out, b"wrote ", size, lent),
+        Err(refusal) => put_outcome(out, b"refused ", u8::from(refusal) as usize, lent),
     }
 }
 
-// Whether the longest line of a writer with `size` lent bytes fits.
-fn fits_written(size: usize, at: usize, room: usize) -> bool
-    ensures { result ≡ fits_at (written_most size) at room }
+// The longest line of a writer with so many lent bytes, where a number of 64 bits holds it.
+fn longest_written(size: usize) -> Option<usize>
+    ensures some { IfSome result (λ most. most ≡ written_most size) }
+    ensures none { IfNone result (2 ^ 64 ≤ written_most size) }
 {
-    if room < at {
-        return false;
-    }
-    let left = room - at;
-    if left < WRITTEN {
-        return false;
-    }
-    size <= (left - WRITTEN) / LENT_BYTE
+    size.checked_mul(LENT_BYTE)?.checked_add(WRITTEN)
 }
 
-// What a writer answered, and the whole buffer that was lent to it, as it left it. Each public function here answers the offset after its line, or the same offset where there is less room than the longest line of its kind takes.
-pub fn put_written(buffer: &mut [u8], at: usize, answer: Written, lent: &[u8]) -> usize
-    ensures put { filled result buffer.new ≡ whole_rule (written_most (length lent.now)) (written_text (written_of answer) lent.now) at buffer.old }
+// What a writer answered, and the whole buffer that was lent to it, as it left it. Each public function here puts nothing where there is less room than the longest line of its kind takes.
+pub fn put_written(out: &mut Out, answer: Result<usize, Refusal>, lent: &[u8])
+    ensures put { OutputsWhole (written_most (length lent.now)) (written_text (written_of answer) lent.now) out.old out.new }
 {
-    if fits_written(lent.len(), at, buffer.len()) {
-        return put_written_line(buffer, at, answer, lent);
+    if let Some(most) = longest_written(lent.len()) {
+        out.whole(most, |out| put_written_line(out, answer, lent))
     }
-    at
 }
 
-fn put_cancelled_line(buffer: &mut [u8], at: usize, answer: Cancelled) -> usize
-    ensures { Puts answer_most (cancelled_text (cancel_of answer)) at buffer.old result buffer.new }
+fn put_cancelled_line(out: &mut Out, answer: Result<(), Refusal>)
+    ensures { Outputs answer_most (cancelled_text (cancel_of answer)) out.old out.new }
 {
     match answer {
-        Cancelled::Refused(refusal) => replay_fields::put_refused(buffer, at, refusal),
-        Cancelled::Done => text::put_word(buffer, at, b"cancelled\n"),
+        Ok(()) => out.word(b"cancelled\n"),
+        Err(refusal) => replay_fields::put_refused(out, refusal),
     }
 }
 
-pub fn put_cancelled(buffer: &mut [u8], at: usize, answer: Cancelled) -> usize
-    ensures put { filled result buffer.new ≡ whole_rule answer_most (cancelled_text (cancel_of answer)) at buffer.old }
+pub fn put_cancelled(out: &mut Out, answer: Result<(), Refusal>)
+    ensures put { OutputsWhole answer_most (cancelled_text (cancel_of answer)) out.old out.new }
 {
-    if frame::fits(ANSWER, at, buffer.len()) {
-        return put_cancelled_line(buffer, at, answer);
-    }
-    at
+    out.whole(ANSWER, |out| put_cancelled_line(out, answer))
 }
 
-// Each number after a space.
-fn put_counts(buffer: &mut [u8], at: usize, counts: [u8; port::PORTS]) -> usize
-    ensures { Puts (spaced_most byte_most * port_count) (each (spaced decimal) counts) at buffer.old result buffer.new }
+// The number of one port after a space.
+fn put_count(out: &mut Out, position: usize, count: &u8)
+    ensures { Outputs (spaced_most byte_most) (spaced decimal position count.now) out.old out.new }
 {
-    let mut next = at;
-    let mut i = 0;
-    while i < port::PORTS {
-        next = replay_fields::put_number(buffer, next, b" ", counts[i]);
-        i += 1;
-    }
-    next
+    out.byte(b' ');
+    out.small(*count)
 }
 
-fn put_ended_line(buffer: &mut [u8], at: usize, counts: [u8; port::PORTS]) -> usize
-    ensures { Puts answer_most (ended_text counts) at buffer.old result buffer.new }
+fn put_ended_line(out: &mut Out, counts: &[u8; port::PORTS])
+    ensures { Outputs answer_most (ended_text counts.now) out.old out.new }
 {
-    let at = text::put_word(buffer, at, b"ended");
-    let at = put_counts(buffer, at, counts);
-    text::put_byte(buffer, at, b'\n')
+    out.word(b"ended");
+    out.each(counts, put_count);
+    out.byte(b'\n')
 }
 
 // The number of requests that a tick ended on each port.
-pub fn put_ended(buffer: &mut [u8], at: usize, counts: [u8; port::PORTS]) -> usize
-    ensures put { filled result buffer.new ≡ whole_rule answer_most (ended_text counts) at buffer.old }
+pub fn put_ended(out: &mut Out, counts: [u8; port::PORTS])
+    ensures put { OutputsWhole answer_most (ended_text counts) out.old out.new }
 {
-    if frame::fits(ANSWER, at, buffer.len()) {
-        return put_ended_line(buffer, at, counts);
-    }
-    at
+    out.whole(ANSWER, |out| put_ended_line(out, &counts))
 }
 
 // A refusal, and the number of the line that it is for.
-fn put_refused_at(buffer: &mut [u8], at: usize, refusal: Refusal, line: u8) -> usize
-    ensures { Puts answer_most (restored_text (refused_at (number_of refusal) line)) at buffer.old result buffer.new }
+fn put_refused_at(out: &mut Out, refusal: Refusal, line: u8)
+    ensures { Outputs answer_most (restored_text (refused_at (number_of refusal) line)) out.old out.new }
 {
-    let at = replay_fields::put_number(buffer, at, b"refused ", refusal.number());
-    let at = replay_fields::put_number(buffer, at, b" line=", line);
-    text::put_byte(buffer, at, b'\n')
+    out.word(b"refused ");
+    out.small(u8::from(refusal));
+    out.word(b" line=");
+    out.small(line);
+    out.byte(b'\n')
 }
 
-#[tactic(auto, unfolding(crate::specs::AnswerLines::restored_text), using(replay_fields::proofs::PartsLaws::an_answer))]
-fn put_restored_line(buffer: &mut [u8], at: usize, answer: Result<(), NotRestored>) -> usize
-    ensures { Puts answer_most (restored_text (restored_of answer)) at buffer.old result buffer.new }
+fn put_restored_line(out: &mut Out, answer: Result<(), NotRestored>)
+    ensures { Outputs answer_most (restored_text (restored_of answer)) out.old out.new }
 {
     match answer {
-        Ok(()) => text::put_word(buffer, at, b"restored\n"),
-        Err(NotRestored {
-            refusal,
-            line: None,
-        }) => replay_fields::put_refused(buffer, at, refusal),
-        Err(NotRestored {
-            refusal,
-            line: Some(line),
-        }) => put_refused_at(buffer, at, refusal, line),
+        Ok(()) => out.word(b"restored\n"),
+        Err(NotRestored { refusal, line }) => match line {
+            None => replay_fields::put_refused(out, refusal),
+            Some(line) => put_refused_at(out, refusal, line),
+        },
     }
 }
 
 // What reading a store answered.
-pub fn put_restored(buffer: &mut [u8], at: usize, answer: Result<(), NotRestored>) -> usize
-    ensures put { filled result buffer.new ≡ whole_rule answer_most (restored_text (restored_of answer)) at buffer.old }
+pub fn put_restored(out: &mut Out, answer: Result<(), NotRestored>)
+    ensures put { OutputsWhole answer_most (restored_text (restored_of answer)) out.old out.new }
 {
-    if frame::fits(ANSWER, at, buffer.len()) {
-        return put_restored_line(buffer, at, answer);
-    }
-    at
+    out.whole(ANSWER, |out| put_restored_line(out, answer))
 }
 
-fn put_report(
-    buffer: &mut [u8],
-    at: usize,
-    id: u8,
-    device: Device,
-    byte2: u8,
-    byte3: u8,
-    start: u8,
-    length: u8,
-) -> usize
-    ensures { Puts answer_most (report_text (record { id = id; device = device.0; byte2 = byte2; byte3 = byte3; start = start; size = length })) at buffer.old result buffer.new }
+fn put_report(out: &mut Out, report: HidppReport)
+    ensures { Outputs answer_most (report_text (hidpp_of report)) out.old out.new }
 {
-    let at = replay_fields::put_code(buffer, at, b"report id=", id);
-    let at = replay_fields::put_code(buffer, at, b" device=", device.0);
-    let at = replay_fields::put_code(buffer, at, b" byte2=", byte2);
-    let at = replay_fields::put_code(buffer, at, b" byte3=", byte3);
-    let at = replay_fields::put_number(buffer, at, b" start=", start);
-    let at = replay_fields::put_number(buffer, at, b" length=", length);
-    text::put_byte(buffer, at, b'\n')
+    out.word(b"report id=");
+    replay_fields::put_code(out, report.id);
+    out.word(b" device=");
+    replay_fields::put_code(out, report.device.0);
+    out.word(b" byte2=");
+    replay_fields::put_code(out, report.byte2.0);
+    out.word(b" byte3=");
+    replay_fields::put_code(out, report.byte3);
+    out.word(b" start=");
+    out.small(report.start);
+    out.word(b" length=");
+    out.small(report.length);
+    out.byte(b'\n')
 }
 
 // Bytes 2 and 3 of a DJ report are its type and its first parameter.
-fn put_dj(buffer: &mut [u8], at: usize, d: DjReport) -> usize
-    ensures { Puts answer_most (report_text (dj_of d)) at buffer.old result buffer.new }
+fn put_dj(out: &mut Out, report: DjReport)
+    ensures { Outputs answer_most (report_text (dj_of report)) out.old out.new }
 {
-    let device = d.device;
-    put_report(buffer, at, d.id, device, d.kind, d.p0, d.start, d.length)
+    put_report(
+        out,
+        HidppReport {
+            id: report.id,
+            device: report.device,
+            byte2: FeatureIndex(report.kind),
+            byte3: report.p0,
+            start: report.start,
+            length: report.length,
+        },
+    )
 }
 
-fn put_reading_line(buffer: &mut [u8], at: usize, answer: Reading) -> usize
-    ensures { Puts answer_most (reading_text (reading_of answer)) at buffer.old result buffer.new }
+fn put_reading_line(out: &mut Out, answer: Result<Reading, Refusal>)
+    ensures { Outputs answer_most (reading_text (reading_of answer)) out.old out.new }
 {
     match answer {
-        Reading::Refused(refusal) => replay_fields::put_refused(buffer, at, refusal),
-        Reading::Hidpp(h) => {
-            let device = h.device;
-            let byte2 = h.byte2;
-            put_report(
-                buffer, at, h.id, device, byte2.0, h.byte3, h.start, h.length,
-            )
-        }
-        Reading::Dj(d) => put_dj(buffer, at, d),
-        Reading::EmptyList(d) => put_dj(buffer, at, d),
+        Ok(Reading::Hidpp(report)) => put_report(out, report),
+        Ok(Reading::Dj(report)) => put_dj(out, report),
+        Ok(Reading::EmptyList(report)) => put_dj(out, report),
+        Err(refusal) => replay_fields::put_refused(out, refusal),
     }
 }
 
 // What reading one report without a station answered.
-pub fn put_reading(buffer: &mut [u8], at: usize, answer: Reading) -> usize
-    ensures put { filled result buffer.new ≡ whole_rule answer_most (reading_text (reading_of answer)) at buffer.old }
+pub fn put_reading(out: &mut Out, answer: Result<Reading, Refusal>)
+    ensures put { OutputsWhole answer_most (reading_text (reading_of answer)) out.old out.new }
 {
-    if frame::fits(ANSWER, at, buffer.len()) {
-        return put_reading_line(buffer, at, answer);
-    }
-    at
+    out.whole(ANSWER, |out| put_reading_line(out, answer))
 }
 
-fn put_motion(buffer: &mut [u8], at: usize, m: Motion) -> usize
-    ensures { Puts answer_most (moved_text (moved m.buttons m.x m.y m.wheel m.pan)) at buffer.old result buffer.new }
+fn put_motion(out: &mut Out, motion: Motion)
+    ensures { Outputs answer_most (moved_text (moved motion.buttons motion.x motion.y motion.wheel motion.pan)) out.old out.new }
 {
-    let at = replay_fields::put_wide(
-        buffer,
-        at,
-        b"moved buttons=",
-        text::DIGITS_16,
-        m.buttons as usize,
-    );
-    let at = replay_fields::put_signed(buffer, at, b" x=", m.x);
-    let at = replay_fields::put_signed(buffer, at, b" y=", m.y);
-    let at = replay_fields::put_signed(buffer, at, b" wheel=", m.wheel as i16);
-    let at = replay_fields::put_signed(buffer, at, b" pan=", m.pan as i16);
-    text::put_byte(buffer, at, b'\n')
+    out.word(b"moved buttons=");
+    out.hex(text::DIGITS_16, motion.buttons as usize);
+    out.word(b" x=");
+    replay_fields::put_signed(out, motion.x);
+    out.word(b" y=");
+    replay_fields::put_signed(out, motion.y);
+    out.word(b" wheel=");
+    replay_fields::put_signed(out, motion.wheel as i16);
+    out.word(b" pan=");
+    replay_fields::put_signed(out, motion.pan as i16);
+    out.byte(b'\n')
 }
 
-fn put_moved_line(buffer: &mut [u8], at: usize, answer: Moved) -> usize
-    ensures { Puts answer_most (moved_text (moved_of answer)) at buffer.old result buffer.new }
+fn put_moved_line(out: &mut Out, answer: Result<Motion, Refusal>)
+    ensures { Outputs answer_most (moved_text (moved_of answer)) out.old out.new }
 {
     match answer {
-        Moved::Refused(refusal) => replay_fields::put_refused(buffer, at, refusal),
-        Moved::By(m) => put_motion(buffer, at, m),
+        Ok(motion) => put_motion(out, motion),
+        Err(refusal) => replay_fields::put_refused(out, refusal),
     }
 }
 
-pub fn put_moved(buffer: &mut [u8], at: usize, answer: Moved) -> usize
-    ensures put { filled result buffer.new ≡ whole_rule answer_most (moved_text (moved_of answer)) at buffer.old }
+pub fn put_moved(out: &mut Out, answer: Result<Motion, Refusal>)
+    ensures put { OutputsWhole answer_most (moved_text (moved_of answer)) out.old out.new }
 {
-    if frame::fits(ANSWER, at, buffer.len()) {
-        return put_moved_line(buffer, at, answer);
-    }
-    at
+    out.whole(ANSWER, |out| put_moved_line(out, answer))
 }
 
-fn put_no_call_line(buffer: &mut [u8], at: usize, number: usize) -> usize
-    ensures { Puts answer_most (no_call_text number) at buffer.old result buffer.new }
+fn put_no_call_line(out: &mut Out, number: usize)
+    ensures { Outputs answer_most (no_call_text number) out.old out.new }
 {
-    let at = replay_fields::put_count(buffer, at, b"line ", number);
-    text::put_word(buffer, at, b" is no call\n")
+    out.word(b"line ");
+    out.decimal(number);
+    out.word(b" is no call\n")
 }
 
 // The answer to a line of a script that is no call.
-pub fn put_no_call(buffer: &mut [u8], at: usize, number: usize) -> usize
-    ensures put { filled result buffer.new ≡ whole_rule answer_most (no_call_text number) at buffer.old }
+pub fn put_no_call(out: &mut Out, number: usize)
+    ensures put { OutputsWhole answer_most (no_call_text number) out.old out.new }
 {
-    if frame::fits(ANSWER, at, buffer.len()) {
-        return put_no_call_line(buffer, at, number);
-    }
-    at
+    out.whole(ANSWER, |out| put_no_call_line(out, number))
 }

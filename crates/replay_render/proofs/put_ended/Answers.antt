@@ -1,13 +1,7 @@
 -- `replay_render::put_ended` meets its contract.
-use Rattle.text.proofs.PuttingLaws.{put_with_room, put_without_room}
+use Rattle.std.proofs.Common.{rules}
+use Rattle.replay_render.specs.AnswerLines.{ended_text}
 use Rattle.replay_render.proofs.put_ended.Goals as goal
 
-pub returns-then-fits : goal.returns-then-fits
-returns-then-fits c = record {
-  put = put_with_room c.put_ended_line.ensures c.fits.ensures.fitting c.if-fits.true;
-}
-
 pub returns : goal.returns
-returns c = record {
-  put = put_without_room _ _ _ _ c.fits.ensures.fitting c.if-fits.false;
-}
+returns c = record { put = c.whole.ensures.whole (ended_text c.args.counts) (λ o o₁ put. search rules) }

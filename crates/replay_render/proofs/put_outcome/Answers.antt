@@ -1,11 +1,11 @@
 -- `replay_render::put_outcome` meets its contract.
-use mathlib.Core.List.{◌++◌, append_assoc}
 use native.Mathlib.Omega.{arith}
-use Rattle.text.specs.Words.{ascii, decimal}
-use Rattle.text.proofs.PuttingLaws.{at_most, same_text, then_put}
-use Rattle.replay_render.specs.AnswerLines.{lent_text, outcome_text}
+use Rattle.text.proofs.PuttingLaws.{out_at_most, then_out}
+use Rattle.replay_fields.specs.AnswerFields.{byte_text, spaced}
+use Rattle.replay_render.specs.AnswerLines.{lent_most, outcome_text}
 use Rattle.replay_render.proofs.put_outcome.Goals as goal
 
 pub returns : goal.returns
 unfolding outcome_text
-returns c = same_text (append_assoc c.args.word.now (decimal c.args.n) (ascii ":" ++ (lent_text c.args.lent.now ++ ascii "\n"))) (at_most _ (omega arith) (then_put c.put_count-at.ensures.put (then_put c.put_byte-at.ensures.put (then_put c.put_lent-at.ensures c.put_byte.ensures.put))))
+returns c =
+    out_at_most _ (omega arith) (then_out c.word.ensures.put (then_out c.decimal.ensures.put (then_out c.byte.ensures.put (then_out (c.each.ensures.each (spaced byte_text) lent_most (λ o o₁ position x put. put)) c.byte-2.ensures.put))))

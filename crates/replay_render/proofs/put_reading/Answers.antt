@@ -1,13 +1,8 @@
 -- `replay_render::put_reading` meets its contract.
-use Rattle.text.proofs.PuttingLaws.{put_with_room, put_without_room}
+use Rattle.std.proofs.Common.{rules}
+use Rattle.report.specs.ReportContracts.{reading_of}
+use Rattle.replay_render.specs.AnswerLines.{reading_text}
 use Rattle.replay_render.proofs.put_reading.Goals as goal
 
-pub returns-then-fits : goal.returns-then-fits
-returns-then-fits c = record {
-  put = put_with_room c.put_reading_line.ensures c.fits.ensures.fitting c.if-fits.true;
-}
-
 pub returns : goal.returns
-returns c = record {
-  put = put_without_room _ _ _ _ c.fits.ensures.fitting c.if-fits.false;
-}
+returns c = record { put = c.whole.ensures.whole (reading_text (reading_of c.args.answer)) (λ o o₁ put. search rules) }

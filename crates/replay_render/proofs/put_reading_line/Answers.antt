@@ -1,20 +1,20 @@
 -- `replay_render::put_reading_line` meets its contract.
-use Rattle.replay_fields.proofs.PartsLaws.{an_answer}
+use Rattle.replay_fields.proofs.PartsLaws.{answer_out}
 use Rattle.replay_render.specs.AnswerLines.{reading_text}
 use Rattle.replay_render.proofs.put_reading_line.Goals as goal
 
-pub returns-in-Refused : goal.returns-in-Refused
+pub returns-in-Ok-Hidpp : goal.returns-in-Ok-Hidpp
 unfolding reading_text
-returns-in-Refused c = rw c.in-Refused.is (an_answer tt c.put_refused.ensures.put)
+returns-in-Ok-Hidpp c = rw (c.in-Ok-Hidpp.is, rw c.in-Ok-Hidpp.is at c.in-Ok-Hidpp.field-0-is) c.put_report.ensures
 
-pub returns-in-Hidpp : goal.returns-in-Hidpp
+pub returns-in-Ok-Dj : goal.returns-in-Ok-Dj
 unfolding reading_text
-returns-in-Hidpp c = rw c.in-Hidpp.is c.put_report.ensures
+returns-in-Ok-Dj c = rw (c.in-Ok-Dj.is, rw c.in-Ok-Dj.is at c.in-Ok-Dj.field-0-is) c.put_dj.ensures
 
-pub returns-in-Dj : goal.returns-in-Dj
+pub returns-in-Ok-EmptyList : goal.returns-in-Ok-EmptyList
 unfolding reading_text
-returns-in-Dj c = rw c.in-Dj.is c.put_dj.ensures
+returns-in-Ok-EmptyList c = rw (c.in-Ok-EmptyList.is, rw c.in-Ok-EmptyList.is at c.in-Ok-EmptyList.field-0-is) c.put_dj-in-Ok-EmptyList.ensures
 
-pub returns-in-EmptyList : goal.returns-in-EmptyList
+pub returns-in-Err : goal.returns-in-Err
 unfolding reading_text
-returns-in-EmptyList c = rw c.in-EmptyList.is c.put_dj-in-EmptyList.ensures
+returns-in-Err c = rw c.in-Err.is (answer_out tt c.put_refused.ensures.put)

@@ -1,17 +1,17 @@
 -- `replay_render::put_written_line` meets its contract: the two words.
 use Prim.Native.Nat.{ℕ}
-use mathlib.Core.Path.{sym, ap}
+use mathlib.Core.Path.{ap}
 use native.Mathlib.Omega.{arith}
-use Rattle.frame.specs.FrameContracts.{Written, written_of}
 use Rattle.text.specs.Words.{ascii}
-use Rattle.text.proofs.PuttingLaws.{at_most, same_text}
+use Rattle.text.proofs.PuttingLaws.{out_at_most, same_out}
 use Rattle.replay_render.specs.AnswerLines.{outcome_text, written_text}
 use Rattle.replay_render.proofs.put_written_line.Goals as goal
 
-pub returns-in-Refused : goal.returns-in-Refused
+pub returns-in-Ok : goal.returns-in-Ok
 unfolding written_text
-returns-in-Refused c = same_text (ap (λ (a : Written). written_text (written_of a) c.args.lent.now) (sym c.in-Refused.is)) (at_most _ (omega arith) (same_text (ap (λ (n : ℕ). outcome_text (ascii "refused ") n c.args.lent.now) c.number.ensures.number) c.put_outcome.ensures))
+returns-in-Ok c = rw c.in-Ok.is (out_at_most _ (omega arith) c.put_outcome.ensures)
 
-pub returns-in-Bytes : goal.returns-in-Bytes
+pub returns-in-Err : goal.returns-in-Err
 unfolding written_text
-returns-in-Bytes c = same_text (ap (λ (a : Written). written_text (written_of a) c.args.lent.now) (sym c.in-Bytes.is)) (at_most _ (omega arith) c.put_outcome-in-Bytes.ensures)
+returns-in-Err c =
+    rw c.in-Err.is (same_out (ap (λ (n : ℕ). outcome_text (ascii "refused ") n c.args.lent.now) c.from.ensures) c.put_outcome-in-Err.ensures)
