@@ -11,14 +11,14 @@ returns-then-not-fits c = record {
   within = omega arith;
 }
 
-pub respond-shown-requires : goal.respond-shown-requires
-respond-shown-requires c = record {
+pub respond-next-requires : goal.respond-next-requires
+respond-next-requires c = record {
   room = sym c.fits.ensures.fitting ∙ c.if-not-fits.false;
-  lent = lends_little _ _ c.parse_line-parsed.ensures.call;
+  lent = lends_little _ _ c.parse_line-command.ensures.call;
 }
 
 pub returns : goal.returns
 returns c = record {
-  answer = answered _ _ _ _ _ _ c.respond-shown.result _ c.parse_line-parsed.ensures.call c.respond-shown.ensures (sym c.fits.ensures.fitting ∙ c.if-not-fits.false);
-  within = within _ _ _ _ _ _ c.respond-shown.result _ c.parse_line-parsed.ensures.call c.respond-shown.ensures (sym c.fits.ensures.fitting ∙ c.if-not-fits.false) (search rules);
+  answer = answered _ _ _ _ c.parse_line-command.ensures.call c.respond-next.ensures (search rules) (sym c.fits.ensures.fitting ∙ c.if-not-fits.false);
+  within = within _ _ _ _ c.parse_line-command.ensures.call c.respond-next.ensures (search rules) (sym c.fits.ensures.fitting ∙ c.if-not-fits.false) (search rules);
 }
