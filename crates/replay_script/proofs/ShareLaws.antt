@@ -1,5 +1,5 @@
 -- Laws of a text answered line by line: each newline ends a line, and the answers lie end to end in the output buffer.
-use Rattle.std.specs.Prelude.{◌≡◌, ℕ, suc, ◌+◌, ◌-◌, ◌<◌, ◌≤◌, Bool, true, false, cond, leb, List, [], ◌∷◌, ◌++◌, length, take, drop, ◌==◌, ◌≢◌, nat_le, refl}
+use Rattle.std.specs.Prelude.{◌≡◌, ℕ, suc, ◌+◌, ◌-◌, ◌<◌, ◌≤◌, Bool, true, false, cond, leb, List, [], ◌∷◌, ◌++◌, length, take, drop, ◌==◌, ◌≢◌, nat_le, refl, Ok, Err}
 use Rattle.std.proofs.Common.{sym, ◌∙◌, subst, append_assoc, append-nil, not-suc-le-zero, arith, length-append, length-take-le, take_at, drop_at, drop-drop}
 use Rattle.std.proofs.Math.Path.{ap}
 use Rattle.std.proofs.Math.ListN.{length-drop}
@@ -8,10 +8,9 @@ use borrow.Author.Tests.{le-leb, lt-leb}
 use Rattle.replay_script.specs.Finding.{index_of, index_after, slice}
 use Rattle.frame.specs.Writing as writing
 use Rattle.frame.specs.FrameContracts.{written_of, Written}
-use Rattle.frame.specs.declared.Written.TheVariants.{Refused, Bytes}
 use Rattle.report.specs.declared.Refusal.{Refusal}
+use Rattle.port.specs.declared.Called.{Called}
 use Rattle.station.specs.declared.Station.{Station}
-use Rattle.replay_desk.specs.declared.Answered.{Answered}
 use Rattle.replay_desk.specs.LineAnswers.{LineAnswer, LineOutcome, answer_room, put, answer_rule, command_rule}
 use Rattle.replay_desk.specs.DeskContracts.{answered_by, end_by}
 use Rattle.replay_line.specs.LineCalls.{line_rule}
@@ -60,11 +59,11 @@ no_line st number read (c ∷ t) room h =
     none_by st number read c t room (index_of newline t) (c == newline) h (no_line st number (read ++ (c ∷ [])) t room)
 
 -- an answer ends within the output
-pub line_end_law : {w : Written} {size : ℕ} (at room : ℕ) → w ≡ Bytes size → end_by at w ≤ room → at + size ≤ room
+pub line_end_law : {w : Written} {size : ℕ} (at room : ℕ) → w ≡ Ok size → end_by at w ≤ room → at + size ≤ room
 line_end_law at room e h = subst (λ (w : Written). end_by at w ≤ room) e h
 
 -- one answer: it has its room, so it is put
-module _ (run : Run) (line b : List ℕ) (number : ℕ) (r : Answered) (b₁ : List ℕ) (room : writing.fits_at answer_room run.filled (length b) ≡ true) (next : number ≡ next_number run.number) (is : answered_by r b₁ ≡ answer_rule run.station number line run.filled b) where
+module _ (run : Run) (line b : List ℕ) (number : ℕ) (r : Called Written Station) (b₁ : List ℕ) (room : writing.fits_at answer_room run.filled (length b) ≡ true) (next : number ≡ next_number run.number) (is : answered_by r b₁ ≡ answer_rule run.station number line run.filled b) where
   is_put : answered_by r b₁ ≡ put (answer_to run.station run.number line) run.filled b
   unfolding answer_rule
   is_put =
@@ -75,13 +74,13 @@ module _ (run : Run) (line b : List ℕ) (number : ℕ) (r : Answered) (b₁ : L
   abbrev text : List ℕ
   text = (answer_to run.station run.number line).text
 
-  pub refused_not : {w : Refusal} → r.answer ≢ Refused w
+  pub refused_not : {w : Refusal} → r.answer ≢ Err w
   refused_not {w} e =
-      let p : written_of (Refused w) ≡ writing.wrote (length text) = sym (ap written_of e) ∙ ap (λ (o : LineOutcome). o.answer) is_put in
+      let p : written_of (Err w) ≡ writing.wrote (length text) = sym (ap written_of e) ∙ ap (λ (o : LineOutcome). o.answer) is_put in
       let z : ◌≡◌ {A = ℕ} 0 1 = cc in
       omega arith
 
-  pub adds : {size : ℕ} → r.answer ≡ Bytes size → run.filled + size ≤ length b₁ → Adds run line b (record { station = r.station; number = number; filled = run.filled + size }) b₁
+  pub adds : {size : ℕ} → r.answer ≡ Ok size → run.filled + size ≤ length b₁ → Adds run line b (record { station = r.next; number = number; filled = run.filled + size }) b₁
   adds {size} e h =
       let p : writing.wrote size ≡ writing.wrote (length text) = sym (ap written_of e) ∙ ap (λ (o : LineOutcome). o.answer) is_put in
       let same : size ≡ length text = cc in

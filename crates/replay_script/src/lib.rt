@@ -7,7 +7,6 @@ ghost use Rattle.replay_desk.specs.LineAnswers.{answer_room};
 ghost use Rattle.replay_script.specs.Shares.{share_rule};
 ghost use Rattle.replay_script.specs.ScriptContracts.{share_of, Adds};
 
-use frame::Written;
 use station::Station;
 
 pub mod finding;
@@ -32,10 +31,10 @@ fn answer(run: Run, line: &[u8], bytes: &mut [u8; replay_line::MOST_LENT], outpu
     let number = std::num::wrapping_add_usize(run.number, 1);
     let answered = replay_desk::answer_line(station, number, line, bytes, output, filled);
     let answer = answered.answer;
-    let after = answered.station;
+    let after = answered.next;
     let end = match answer {
-        Written::Bytes(size) => filled + size,
-        Written::Refused(_) => filled,
+        Ok(size) => filled + size,
+        Err(_) => filled,
     };
     Run {
         station: after,
