@@ -130,7 +130,7 @@ fn respond(
     }
 }
 
-// Answers one line, which comes without its newline and has this number: the number of bytes of text that were put, and the next station. Where there is less room from `at` on than the longest answer takes, nothing is done: refusal 10. `bytes` are for those of the call; they are lent so that they need not be made for each line.
+// Answers one line, which comes without its newline and has this number: the number of bytes of text that were put, and the next station. Where there is less room from `at` on than the longest answer takes, nothing is done: refusal 10. `bytes` are for those of the call; they are lent so that they need not be made for each line. The buffer and the offset come apart, and not as an Out: the caller keeps in its progress how much of the buffer is filled.
 pub fn answer_line(
     station: Station,
     number: usize,

@@ -72,6 +72,7 @@ pub fn put_written(out: &mut Out, answer: Result<usize, Refusal>, lent: &[u8])
     }
 }
 
+// Each line of a Result has an arm for a refusal of its own: for one function that takes what puts the other answers, the proof did not close where the closure given to `whole` calls it.
 fn put_cancelled_line(out: &mut Out, answer: Result<(), Refusal>)
     ensures { Outputs answer_most (cancelled_text (cancel_of answer)) out.old out.new }
 {
@@ -87,7 +88,7 @@ pub fn put_cancelled(out: &mut Out, answer: Result<(), Refusal>)
     out.whole(ANSWER, |out| put_cancelled_line(out, answer))
 }
 
-// The number of one port after a space.
+// The count of one port after a space. This and put_lent are two functions: for one that takes what puts the byte, the proof did not close where the closure given to `each` calls it.
 fn put_count(out: &mut Out, position: usize, count: &u8)
     ensures { Outputs (spaced_most byte_most) (spaced decimal position count.now) out.old out.new }
 {
