@@ -7,8 +7,7 @@ use Rattle.std.proofs.Math.Seq.{take-append_seam, drop-append_seam}
 use borrow.Author.Tests.{le-leb, leb-true}
 use Rattle.report.specs.Sizes.{joined2}
 use Rattle.sequence.specs.Steps as steps
-use Rattle.encoded.specs.declared.block.Header.{Header}
-use Rattle.encoded.specs.Blocks.{header_size, last_opcode, header_of, lent_size, is_whole, block_writer, block_call}
+use Rattle.encoded.specs.Blocks.{Header, header_size, last_opcode, header_of, lent_size, is_whole, block_writer, block_call}
 use Rattle.encoded.specs.Decoding.{Decoded, malformed, calls, followed, first_call, rest_of, decode_by, decode}
 use Rattle.encoded.specs.Encoding.{byte_values, low, high, encode_header, header_for, encode_call, encode, arena_of, Byte, InTwoBytes, Bytes, Within, AllWithin, Encoded}
 

@@ -3,7 +3,6 @@ pub mod EncodingLaws
 pub mod RowsLaws
 pub mod WithinLaws
 pub mod ReadBackLaws
-pub mod CallsLaws
 pub mod CheckLaws
 pub mod PerformLaws
 pub mod Demand3Laws

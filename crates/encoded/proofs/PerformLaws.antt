@@ -1,27 +1,21 @@
 -- Laws of the second pass: the calls made, and the calls left to make; and of both passes together.
-use Rattle.std.specs.Prelude.{ℕ, ◌+◌, ◌-◌, ◌≤◌, ◌<◌, Bool, true, false, cond, List, [], ◌∷◌, ◌++◌}
+use Rattle.std.specs.Prelude.{ℕ, ◌+◌, ◌-◌, ◌≤◌, ◌<◌, Bool, true, false, cond, leb, List, [], ◌∷◌, ◌++◌, Some, None, Ok}
 use Rattle.std.proofs.Math.Path.{◌≡◌, refl, ap}
-use Rattle.std.proofs.Common.{sym, ◌∙◌, append_assoc, arith, length-append, length-drop, length-take-le, take_at, drop_at, le-leb}
+use Rattle.std.proofs.Common.{sym, ◌∙◌, append_assoc, arith, length-append, length-drop, length-take-le, take_at, drop_at, le-leb, leb-true}
 use Rattle.std.proofs.Math.ListN.{length, take, drop}
-use Rattle.std.proofs.Math.Seq.{drop-drop, take_all}
+use Rattle.std.proofs.Math.Seq.{drop-drop}
 use Rattle.std.proofs.lemmas.Bool.{lt-leb}
 use Rattle.report.specs.Refusals.{no_room}
-use Rattle.text.specs.Putting.{Filled, filled, put_rule, Puts}
+use Rattle.port.specs.declared.Called.{Called}
 use Rattle.station.specs.declared.Station.{Station}
-use Rattle.station.specs.Stations.{fresh_station}
 use Rattle.sequence.specs.Steps.{Call, step, run, returned_by}
-use Rattle.encoded.specs.declared.block.Header.{Header}
-use Rattle.encoded.specs.declared.Called.{Called}
-use Rattle.encoded.specs.declared.RunResult.{RunResult}
-use Rattle.encoded.specs.declared.Ran.{Ran}
-use Rattle.encoded.specs.declared.Ran.TheVariants.{Done}
-use Rattle.encoded.specs.Blocks.{header_size, header_of, lent_size, is_whole, block_call}
+use Rattle.encoded.specs.Blocks.{Header, lent_size, block_call}
 use Rattle.encoded.specs.Decoding.{Decoded, malformed, calls, followed, at_end, decode_by, decode}
-use Rattle.encoded.proofs.DecodingLaws.{end_law, call_at, left_at, block_at, is_whole_law}
+use Rattle.encoded.proofs.DecodingLaws.{end_law, block_law, no_block, shorter}
 use Rattle.encoded.specs.Rows.{row_size}
 use Rattle.encoded.proofs.RowsLaws.{row_length}
 use Rattle.encoded.specs.EncodedRuns.{lents, rows, rows_size, RunAnswer, EncodedOutcome, refused_run, ran, encoded_by, encoded_rule, malformed_calls}
-use Rattle.encoded.specs.EncodedContracts.{Left, left_of, left_by, MadePromise, none, some, count_from, Ready, ran_of, EncodedPromise, c_ran, c_run_outcome, c_left}
+use Rattle.encoded.specs.EncodedContracts.{first_block, Left, left_of, left_by, MadePromise, count_from, Ready, EncodedPromise}
 
 -- the length of a lent part
 pub part_for : (b : List ℕ) (p n m : ℕ) → n ≡ m → p + m ≤ length b → length (take (p + n - p) (drop p b)) ≡ m
@@ -61,14 +55,6 @@ module _ {b front a : List ℕ} {p : ℕ} (k : FilledTo b front a p) where
       let part : p + length ys - p ≡ length ys = omega arith in
       simp (same, part) (filled_by ys (omega arith))
 
-  -- these bytes are put
-  filled_put : {m next : ℕ} {ys a₁ : List ℕ} → Puts m ys p a next a₁ → p + length ys ≤ length b → (next ≡ p + length ys) × FilledTo b (front ++ ys) a₁ (p + length ys)
-  unfolding put_rule
-  filled_put {next = next} {ys = ys} {a₁ = a₁} put w =
-      let fits : take (length a - p) ys ≡ ys = take_all (length a - p) ys (omega (arith, filled_length)) in
-      let e : filled next a₁ ≡ filled (p + length ys) (take p a ++ (ys ++ drop (p + length ys) a)) = simp fits at put.put in
-      (ap (λ (f : Filled). f.next) e, simp (ap (λ (f : Filled). f.lent) e, ← drop-drop (length ys) p a) (filled_by ys w))
-
 -- what the calls that are left come to, with the buffers and rows of those that are made
 abbrev course : ℕ → List ℕ → List ℕ → List ℕ → Station → List Call → EncodedOutcome
 course total w₀ lent made st cs =
@@ -80,22 +66,21 @@ course total w₀ lent made st cs =
     }
 
 -- the loop's state: these calls are left, and come to what the rule gives
-pub record Running (st₀ : Station) (s a₀ w₀ : List ℕ) (st : Station) (at lent size : ℕ) (a w : List ℕ) : Type 0 where
+pub record Running (st₀ : Station) (s a₀ w₀ : List ℕ) (st : Station) (left : List ℕ) (lent size : ℕ) (a w : List ℕ) : Type 0 where
   pub todo : List Call
   pub fuel : ℕ
   pub total : ℕ
   pub lents_front : List ℕ
   pub rows_front : List ℕ
-  pub decoded : decode_by fuel (drop at s) (drop lent a₀) ≡ calls todo
-  pub within : at ≤ length s
-  pub enough : length s ≤ at + fuel
+  pub decoded : decode_by fuel left (drop lent a₀) ≡ calls todo
+  pub enough : length left ≤ fuel
   pub sum : size + rows_size todo ≡ total
   pub room : total ≤ length w₀
   pub arena : FilledTo a₀ lents_front a lent
   pub answers : FilledTo w₀ rows_front w size
   pub so : course total w₀ lents_front rows_front st todo ≡ encoded_rule st₀ s a₀ w₀
 
-pub begun : (st : Station) (s a w : List ℕ) → Ready s a w → Running st s a w st 0 0 0 a w
+pub begun : (st : Station) (s a w : List ℕ) → Ready s a w → Running st s a w st s 0 0 a w
 unfolding decode encoded_rule encoded_by ran
 begun st s a w r =
     record {
@@ -105,7 +90,6 @@ begun st s a w r =
       lents_front = [];
       rows_front = [];
       decoded = r.decoded;
-      within = omega arith;
       enough = omega arith;
       sum = omega arith;
       room = r.room;
@@ -126,11 +110,14 @@ split true c malformed todo e = absurd (let z : ◌≡◌ {A = ℕ} 0 1 = cc in 
 split true c (calls cs) todo e = record { whole = refl; rest = cs; is_rest = refl; is_todo = cc }
 split false c d todo e = absurd (let z : ◌≡◌ {A = ℕ} 0 1 = cc in omega arith)
 
-module _ {st₀ : Station} {s a₀ w₀ : List ℕ} {st : Station} {at lent size : ℕ} {a w : List ℕ} (k : Running st₀ s a₀ w₀ st at lent size a w) (h : Header) (here : at < length s) (e : h ≡ header_of (take (length s - at) (drop at s))) where
+module _ {st₀ : Station} {s a₀ w₀ : List ℕ} {st : Station} {left : List ℕ} {lent size : ℕ} {a w : List ℕ} (k : Running st₀ s a₀ w₀ st left lent size a w) {h : Header} {bytes rest : List ℕ} (first : Some (h, (bytes, rest)) ≡ first_block left) where
+  turn_call : Call
+  turn_call = block_call h bytes (take (lent_size h) (drop lent a₀))
+
   -- the turn's call, and the calls after it
-  turn : Split (is_whole h (length s - at) (length a₀ - lent)) (call_at h s a₀ at lent) (left_at k.fuel h s a₀ at lent) k.todo
-  turn =
-      split _ _ _ k.todo (sym (block_at k.fuel s a₀ at lent h here k.enough e) ∙ k.decoded)
+  turn : Split (leb (lent_size h) (length (drop lent a₀))) turn_call (decode_by (k.fuel - 1) rest (drop (lent_size h) (drop lent a₀))) k.todo
+  unfolding turn_call
+  turn = split _ _ _ k.todo (sym (block_law k.fuel left (drop lent a₀) k.enough first) ∙ k.decoded)
 
   sizes : rows_size k.todo ≡ row_size + rows_size turn.rest
   unfolding rows_size
@@ -138,60 +125,65 @@ module _ {st₀ : Station} {s a₀ w₀ : List ℕ} {st : Station} {at lent size
 
   -- the parts that the turn lends are there
   pub record Bounds : Type 0 where
-    pub body : at + header_size + h.size ≤ length s
     pub part : lent + lent_size h ≤ length a
+    pub row : size + row_size ≤ length w
     pub same : length a ≡ length a₀
 
   pub bounds : Bounds
   bounds =
-      let b = is_whole_law h (length s - at) (length a₀ - lent) turn.whole in
       record {
-        body = omega (arith, b.body);
-        part = omega (arith, b.part, k.arena.within, filled_length k.arena);
+        part = omega (arith, leb-true (lent_size h) (length (drop lent a₀)) turn.whole, length-drop lent a₀, k.arena.within, filled_length k.arena);
+        row = omega (arith, sizes, k.sum, k.room, filled_length k.answers);
         same = filled_length k.arena;
       }
 
-  -- after the turn: the call is made, its buffer given back, and its row put
-  module _ (r : Called) {n : ℕ} (q : n ≡ lent_size h) {ys : List ℕ} (made : MadePromise st (block_call h (take (at + header_size + h.size - (at + header_size)) (drop (at + header_size) s)) (take (lent + n - lent) (drop lent a))) r ys) (given : length ys ≡ length (take (lent + n - lent) (drop lent a))) {m next : ℕ} {w₁ : List ℕ} (put : Puts m r.row size w next w₁) where
-    is_step : left_by r ys ≡ left_of (step st (call_at h s a₀ at lent))
+  -- after the turn: the call is made, its buffer given back, and its row copied
+  module _ (r : Called (List ℕ) Station) {n : ℕ} (q : n ≡ lent_size h) {ys : List ℕ} (made : MadePromise st (block_call h bytes (take (lent + n - lent) (drop lent a))) r ys) (given : length ys ≡ length (take (lent + n - lent) (drop lent a))) where
+    is_step : left_by r ys ≡ left_of (step st turn_call)
+    unfolding turn_call
     is_step =
-        let x : at + header_size + h.size - (at + header_size) ≡ h.size = omega arith in
         let y : lent + n - lent ≡ lent_size h = omega (arith, q) in
-        simp (x, y, filled_rest k.arena) at made
+        simp (y, filled_rest k.arena) at made
 
-    pub more : Running st₀ s a₀ w₀ r.station (at + header_size + h.size) (lent + n) next (take lent a ++ (ys ++ drop (lent + n - lent) (drop lent a))) w₁
-    unfolding run returned_by lents rows
+    pub row_long : length r.answer ≡ row_size
+    row_long = ap (λ (x : Left). length x.row) is_step ∙ row_length (step st turn_call).answer
+
+    pub more : Running st₀ s a₀ w₀ r.next rest (lent + n) (size + row_size) (take lent a ++ (ys ++ drop (lent + n - lent) (drop lent a))) (take size w ++ (r.answer ++ drop (size + row_size - size) (drop size w)))
+    unfolding run returned_by lents rows turn_call
     more =
-        let row : length r.row ≡ row_size = ap (λ (x : Left). length x.row) is_step ∙ row_length (step st (call_at h s a₀ at lent)).answer in
-        let answers = filled_put k.answers put (omega (arith, row, sizes, k.sum, k.room)) in
         record {
           todo = turn.rest;
           fuel = k.fuel - 1;
           total = k.total;
           lents_front = k.lents_front ++ ys;
-          rows_front = k.rows_front ++ r.row;
-          decoded = simp q turn.is_rest;
-          within = bounds.body;
-          enough = omega (arith, k.enough);
-          sum = omega (arith, sizes, k.sum, answers.0, row);
+          rows_front = k.rows_front ++ r.answer;
+          decoded = simp (q, ← drop-drop (lent_size h) lent a₀) turn.is_rest;
+          enough = omega (arith, k.enough, shorter left first);
+          sum = omega (arith, sizes, k.sum);
           room = k.room;
-          arena = filled_more k.arena n ys (omega (arith, q, bounds)) given;
-          answers = simp answers.0 answers.1;
+          arena = filled_more k.arena n ys (omega (arith, q, bounds.part, bounds.same)) given;
+          answers = filled_more k.answers row_size r.answer (omega (arith, bounds.row, filled_length k.answers)) (row_long ∙ sym (part_for w size row_size row_size refl bounds.row));
           so = ap (λ (x : Left). course k.total w₀ (k.lents_front ++ x.lent) (k.rows_front ++ x.row) x.station turn.rest) is_step
               ∙ (simp append_assoc)
               ∙ ap (course k.total w₀ k.lents_front k.rows_front st) (sym turn.is_todo)
               ∙ k.so;
         }
 
+-- no block is left: nothing is left of the blocks
+all_read : (fuel : ℕ) (l a : List ℕ) (todo : List Call) → None ≡ first_block l → decode_by fuel l a ≡ calls todo → length l ≡ 0
+all_read fuel [] a todo none e = refl
+all_read fuel (x ∷ l) a todo none e = absurd (let m : malformed ≡ calls todo = sym (no_block fuel (x ∷ l) a (omega arith) none) ∙ e in let z : ◌≡◌ {A = ℕ} 0 1 = cc in omega arith)
+
 -- nothing is left of the blocks: nothing is left of the arena, and no call is left
 nothing : (l : List ℕ) (todo : List Call) → at_end l ≡ calls todo → (l ≡ []) × (todo ≡ [])
 nothing [] todo e = (refl, cc)
 nothing (x ∷ l) todo e = absurd (let z : ◌≡◌ {A = ℕ} 0 1 = cc in omega arith)
 
-pub finished : {st₀ : Station} {s a₀ w₀ : List ℕ} {st : Station} {at lent size : ℕ} {a w : List ℕ} (k : Running st₀ s a₀ w₀ st at lent size a w) → length s ≤ at → EncodedPromise st₀ s a₀ w₀ (record { answer = Done size; station = st }) a w
+pub finished : {st₀ : Station} {s a₀ w₀ : List ℕ} {st : Station} {left : List ℕ} {lent size : ℕ} {a w : List ℕ} (k : Running st₀ s a₀ w₀ st left lent size a w) → None ≡ first_block left → EncodedPromise st₀ s a₀ w₀ (record { answer = Ok size; next = st }) a w
 unfolding run returned_by lents rows rows_size
-finished {s = s} {a₀ = a₀} {w₀ = w₀} {st = st} {at = at} {lent = lent} {size = size} k past =
-    let end = nothing (drop lent a₀) k.todo (sym (end_law k.fuel s (drop lent a₀) at past) ∙ k.decoded) in
+finished {s = s} {a₀ = a₀} {w₀ = w₀} {st = st} {left = left} {lent = lent} {size = size} k none =
+    let past = all_read k.fuel left (drop lent a₀) k.todo none k.decoded in
+    let end = nothing (drop lent a₀) k.todo (sym (end_law k.fuel left (drop lent a₀) past) ∙ k.decoded) in
     let none : rows_size k.todo ≡ 0 = ap rows_size end.1 in
     let size_so : size ≡ k.total = omega (arith, none, k.sum) in
     let arena_so = k.arena.so ∙ ap (λ (l : List ℕ). k.lents_front ++ l) end.0 in
@@ -206,11 +198,11 @@ module _ (st : Station) (s a w : List ℕ) where
   unfolding encoded_rule
   by e = ap (λ (d : Decoded). encoded_by d st a w) (sym e)
 
-  pub is_malformed : none ≡ count_from 0 (decode s a) → refused_run malformed_calls st a w ≡ encoded_rule st s a w
+  pub is_malformed : None ≡ count_from 0 (decode s a) → refused_run malformed_calls st a w ≡ encoded_rule st s a w
   unfolding encoded_by
   is_malformed n = go (decode s a) refl n
     where
-      go : (d : Decoded) → decode s a ≡ d → none ≡ count_from 0 d → refused_run malformed_calls st a w ≡ encoded_rule st s a w
+      go : (d : Decoded) → decode s a ≡ d → None ≡ count_from 0 d → refused_run malformed_calls st a w ≡ encoded_rule st s a w
       go malformed e q = by e
       go (calls cs) e q = absurd (let z : ◌≡◌ {A = ℕ} 0 1 = cc in omega arith)
 
@@ -220,27 +212,15 @@ module _ (st : Station) (s a w : List ℕ) where
     decoded : decode s a ≡ calls made
     count : n ≡ rows_size made
 
-  some_calls : {n : ℕ} → some n ≡ count_from 0 (decode s a) → Calls n
+  some_calls : {n : ℕ} → Some n ≡ count_from 0 (decode s a) → Calls n
   some_calls {n} m = go (decode s a) refl m
     where
-      go : (d : Decoded) → decode s a ≡ d → some n ≡ count_from 0 d → Calls n
+      go : (d : Decoded) → decode s a ≡ d → Some n ≡ count_from 0 d → Calls n
       go malformed e q = absurd (let z : ◌≡◌ {A = ℕ} 0 1 = cc in omega arith)
       go (calls cs) e q = let z : n ≡ 0 + rows_size cs = cc in record { made = cs; decoded = e; count = omega arith }
 
-  pub has_no_room : {n : ℕ} → some n ≡ count_from 0 (decode s a) → length w < n → refused_run no_room st a w ≡ encoded_rule st s a w
+  pub has_no_room : {n : ℕ} → Some n ≡ count_from 0 (decode s a) → length w < n → refused_run no_room st a w ≡ encoded_rule st s a w
   unfolding encoded_by
   has_no_room m h =
       let c = some_calls m in
       (simp (lt-leb (rows_size c.made) (length w) (omega (arith, c.count)))) ∙ by c.decoded
-
-  pub is_ready_law : {n : ℕ} → some n ≡ count_from 0 (decode s a) → n ≤ length w → Ready s a w
-  is_ready_law m h =
-      let c = some_calls m in
-      record { made = c.made; decoded = c.decoded; room = omega (arith, c.count) }
-
--- what C is given of a run on a fresh station
-pub for_c : {st : Station} (s a w : List ℕ) {a' w' : List ℕ} (r : RunResult) {x : Ran} → st ≡ fresh_station → EncodedPromise st s a w r a' w' → r.answer ≡ x → c_left (c_ran (ran_of x)) a' w' ≡ c_run_outcome (encoded_rule fresh_station s a w)
-for_c s a w {a'} {w'} r e p q =
-    ap (λ (x : Ran). c_left (c_ran (ran_of x)) a' w') (sym q)
-    ∙ ap c_run_outcome p
-    ∙ ap (λ (st : Station). c_run_outcome (encoded_rule st s a w)) e

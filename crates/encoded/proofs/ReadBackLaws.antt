@@ -36,14 +36,13 @@ use Rattle.station.specs.StationCalls.{RequestOutcome, request_rule, ended_on, t
 use Rattle.sequence.specs.Steps.{Writer, switch, get_paired, led, list, store, Call, CallAnswer, taken, written, cancelled, ticked, restoring, step, returned_by}
 use Rattle.sequence.specs.Steps as steps
 use Rattle.sequence.proofs.IndependenceLaws.{Seven, seven_step}
-use Rattle.encoded.specs.declared.RunResult.{RunResult}
 use Rattle.encoded.specs.Decoding.{Decoded, calls, decode}
 use Rattle.encoded.specs.Encoding.{InTwoBytes, InFourBytes, Bytes, Within, AllWithin}
 use Rattle.encoded.proofs.WithinLaws.{byte_below, decoded_within}
 use Rattle.encoded.specs.Rows.{row_size, encode_answer, decode_answer, FitsRow}
 use Rattle.encoded.proofs.RowsLaws.{reads_back, row_length}
 use Rattle.encoded.specs.EncodedRuns.{rows, AllFit, answers_in, ReadsBack, rows_size, EncodedOutcome, ran, encoded_by, encoded_rule}
-use Rattle.encoded.specs.EncodedContracts.{outcome_of, EncodedPromise}
+use Rattle.encoded.specs.EncodedContracts.{RunCalled, outcome_of, EncodedPromise}
 
 -- what an answer has to carry, by its kind
 FitsTaken : answers.Answer → Type 0
@@ -243,7 +242,7 @@ unfolding ran
 run_reads_back st s cs w bytes = rows_read st cs (drop (rows_size cs) bytes) (all_fit st s cs w)
 
 -- and those that the program leaves
-pub program_reads_back : (st : Station) → Seven st → (encoded arena answers : List ℕ) (r : RunResult) (arena_after answers_after : List ℕ) → EncodedPromise st encoded arena answers r arena_after answers_after → (cs : List Call) → decode encoded arena ≡ calls cs → rows_size cs ≤ length answers → Bytes encoded → Bytes arena → ReadsBack st cs answers_after
+pub program_reads_back : (st : Station) → Seven st → (encoded arena answers : List ℕ) (r : RunCalled) (arena_after answers_after : List ℕ) → EncodedPromise st encoded arena answers r arena_after answers_after → (cs : List Call) → decode encoded arena ≡ calls cs → rows_size cs ≤ length answers → Bytes encoded → Bytes arena → ReadsBack st cs answers_after
 unfolding encoded_rule encoded_by
 program_reads_back st s encoded arena answers r arena_after answers_after kept cs decoded room p q =
     let outcome : outcome_of r arena_after answers_after ≡ ran st cs answers = kept ∙ ap (λ (d : Decoded). encoded_by d st arena answers) decoded ∙ simp (le-leb (rows_size cs) (length answers) room) in

@@ -1,6 +1,8 @@
 -- A row tells its answer: every kind, refusal number and value reads back.
-use Rattle.std.specs.Prelude.{ℕ, ◌≡◌, refl, true, false, List, [], ◌∷◌, length}
+use Rattle.std.specs.Prelude.{ℕ, ◌≡◌, refl, true, false, ◌+◌, ◌-◌, ◌≤◌, List, [], ◌∷◌, ◌++◌, length, take, drop, replicate}
 use Rattle.std.proofs.Common.{sym, ◌∙◌, ap, arith, div-add-mod', length-append, ne_eqb}
+use Rattle.std.proofs.lemmas.List.{drop-replicate, take-replicate}
+use Rattle.std.proofs.Math.Seq.{take-append-add}
 use Rattle.report.specs.Sizes.{joined2, joined4}
 use Rattle.frame.specs.Writing as writing
 use Rattle.port.specs.Answers as answers
@@ -9,8 +11,18 @@ use Rattle.restore.specs.Restoring as restores
 use Rattle.station.specs.declared.Station.{Station}
 use Rattle.sequence.specs.Steps.{Call, CallAnswer, taken, written, cancelled, ticked, restoring, step, returned_by}
 use Rattle.encoded.specs.Encoding.{byte_values, low, high, InTwoBytes, InFourBytes}
-use Rattle.encoded.specs.Rows.{row_size, encode_answer, at, decode_answer, FitsRow}
+use Rattle.encoded.specs.Rows.{row_size, row, encode_answer, at, decode_answer, FitsRow}
 use Rattle.encoded.specs.EncodedRuns.{rows, rows_size}
+
+-- values put over a row of zeros
+pub filled_row : (xs : List ℕ) → length xs ≤ row_size → xs ++ drop (length xs) (replicate row_size 0) ≡ row xs
+filled_row xs h =
+    let k : ℕ = row_size - length xs in
+    let sum : length xs + k ≡ row_size = omega arith in
+    let less : k ≤ row_size = omega arith in
+    ap (λ (zeros : List ℕ). xs ++ zeros) (drop-replicate (length xs) row_size 0 ∙ sym (take-replicate k row_size 0 less))
+    ∙ sym (take-append-add xs (replicate row_size 0) k)
+    ∙ ap (λ (n : ℕ). take n (xs ++ replicate row_size 0)) sum
 
 two : (n : ℕ) → InTwoBytes n → joined2 (low n) (low (high n)) ≡ n
 two n h = omega (arith, div-add-mod' n byte_values, div-add-mod' (high n) byte_values)

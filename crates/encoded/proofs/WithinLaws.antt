@@ -4,8 +4,7 @@ use Rattle.std.proofs.Common.{subst, arith, lit≤, length-take}
 use Rattle.report.proofs.ChoicesLaws.{by_case}
 use Rattle.report.specs.Sizes.{byte, joined2}
 use Rattle.sequence.specs.Steps as steps
-use Rattle.encoded.specs.declared.block.Header.{Header}
-use Rattle.encoded.specs.Blocks.{header_size, take_opcode, request_opcode, cancel_opcode, tick_opcode, switch_opcode, get_paired_opcode, led_opcode, list_opcode, restore_opcode, header_of, is_writer, lent_size, is_whole, block_writer, block_call}
+use Rattle.encoded.specs.Blocks.{Header, header_size, take_opcode, request_opcode, cancel_opcode, tick_opcode, switch_opcode, get_paired_opcode, led_opcode, list_opcode, restore_opcode, header_of, is_writer, lent_size, is_whole, block_writer, block_call}
 use Rattle.encoded.specs.Decoding.{Decoded, malformed, calls, followed, at_end, first_call, rest_of, decode_by, decode}
 use Rattle.encoded.specs.Encoding.{Byte, InTwoBytes, Bytes, Within, AllWithin}
 

@@ -2,7 +2,6 @@
 use Rattle.std.specs.Prelude.{ℕ, ◌+◌, Bool, cond, ◌&&◌, ◌||◌, List, eqb, leb}
 use Rattle.report.specs.Sizes.{byte, joined2}
 use Rattle.sequence.specs.Steps as steps
-use Rattle.encoded.specs.declared.block.Header.{Header}
 
 abbrev pub header_size : ℕ
 header_size = 12
@@ -40,6 +39,17 @@ restore_opcode = 9
 
 abbrev pub last_opcode : ℕ
 last_opcode = restore_opcode
+
+-- what a header says: the opcode, three byte arguments, ticks, offset, and the lengths of the data and of the lent buffer
+pub record Header : Type 0 where
+  pub op : ℕ
+  pub a : ℕ
+  pub b : ℕ
+  pub c : ℕ
+  pub ticks : ℕ
+  pub offset : ℕ
+  pub size : ℕ
+  pub lent : ℕ
 
 -- byte 0 the opcode; 1 to 3 byte arguments; then ticks, offset, the length of the data and that of the lent buffer, two bytes each
 unfoldable pub header_of : List ℕ → Header

@@ -1,8 +1,7 @@
 -- Encoded calls are blocks end to end, and the arena is their lent buffers end to end.
 use Rattle.std.specs.Prelude.{ℕ, zero, suc, cond, List, [], ◌∷◌, length, take, drop}
 use Rattle.sequence.specs.Steps.{Call}
-use Rattle.encoded.specs.declared.block.Header.{Header}
-use Rattle.encoded.specs.Blocks.{header_size, header_of, lent_size, is_whole, block_call}
+use Rattle.encoded.specs.Blocks.{Header, header_size, header_of, lent_size, is_whole, block_call}
 
 -- what encoded calls and an arena say
 pub data Decoded : Type 0 where

@@ -8,11 +8,10 @@ use Rattle.sequence.specs.Steps.{Call, run, returned_by}
 use Rattle.sequence.specs.Independence as ports
 use Rattle.sequence.specs.Histories as histories
 use Rattle.sequence.specs.Sequences.{Sequences}
-use Rattle.encoded.specs.declared.RunResult.{RunResult}
 use Rattle.encoded.specs.Decoding.{calls, decode}
 use Rattle.encoded.specs.Encoding.{Bytes, AllWithin, Encoded}
 use Rattle.encoded.specs.EncodedRuns.{AllFit, ReadsBack, rows_size, ran}
-use Rattle.encoded.specs.EncodedContracts.{outcome_of, EncodedPromise}
+use Rattle.encoded.specs.EncodedContracts.{RunCalled, outcome_of, EncodedPromise}
 
 pub record Demand3 : Type 0 where
   -- from a fresh station or one that a store restores, for every list of calls, accepted and refused reads of stores among them, and each of the seven ports: strike out every call for another device or for none, keep the ticks, the accepted reads, each of which begins a new sequence, and, for a device, every call for 255; the port then holds what it holds after the full run, and each call left has the same answer and leaves the same lent bytes: of a tick that port's count; of a call for 255, for a device that device's drop count and the lent bytes, and for 255 itself all but the drop count
@@ -24,7 +23,7 @@ pub record Demand3 : Type 0 where
   -- and from a start it is made of sequences: each accepted read ends one, and begins the next on the station that it restores, which is a start
   pub sequences : (st : Station) → Start st → (ms : List histories.Made) → histories.History st ms → Sequences st ms
   -- a run of encoded calls by the program: the final station, every lent byte and every row of the answers are those of the rules' run of the calls
-  pub run_encoded : (st : Station) (encoded arena answers : List ℕ) (r : RunResult) (arena_after answers_after : List ℕ) → EncodedPromise st encoded arena answers r arena_after answers_after → (cs : List Call) → decode encoded arena ≡ calls cs → rows_size cs ≤ length answers → outcome_of r arena_after answers_after ≡ ran st cs answers
+  pub run_encoded : (st : Station) (encoded arena answers : List ℕ) (r : RunCalled) (arena_after answers_after : List ℕ) → EncodedPromise st encoded arena answers r arena_after answers_after → (cs : List Call) → decode encoded arena ≡ calls cs → rows_size cs ≤ length answers → outcome_of r arena_after answers_after ≡ ran st cs answers
   -- every list of calls within the encoding's bounds has an encoding
   pub encoded : (cs : List Call) → AllWithin cs → Encoded cs
   -- and the calls that bytes decode to are within them
@@ -33,4 +32,4 @@ pub record Demand3 : Type 0 where
   pub rows_fit : (st : Station) → length st.ports ≡ port_count → (cs : List Call) → AllWithin cs → AllFit (returned_by st cs)
   pub rows_read_back : (st : Station) → length st.ports ≡ port_count → (cs : List Call) → AllWithin cs → (answers : List ℕ) → ReadsBack st cs (ran st cs answers).answers
   -- and so do those that the program leaves, whatever bytes it was given
-  pub program_rows : (st : Station) → length st.ports ≡ port_count → (encoded arena answers : List ℕ) (r : RunResult) (arena_after answers_after : List ℕ) → EncodedPromise st encoded arena answers r arena_after answers_after → (cs : List Call) → decode encoded arena ≡ calls cs → rows_size cs ≤ length answers → Bytes encoded → Bytes arena → ReadsBack st cs answers_after
+  pub program_rows : (st : Station) → length st.ports ≡ port_count → (encoded arena answers : List ℕ) (r : RunCalled) (arena_after answers_after : List ℕ) → EncodedPromise st encoded arena answers r arena_after answers_after → (cs : List Call) → decode encoded arena ≡ calls cs → rows_size cs ≤ length answers → Bytes encoded → Bytes arena → ReadsBack st cs answers_after

@@ -1,8 +1,7 @@
 -- The blocks and the arena of a list of calls, and the bounds within which they are bytes.
 use Rattle.std.specs.Prelude.{ℕ, ◌^◌, ◌/◌, ◌%◌, ◌<◌, ◌≡◌, List, [], ◌∷◌, ◌++◌, length}
 use Rattle.sequence.specs.Steps as steps
-use Rattle.encoded.specs.declared.block.Header.{Header}
-use Rattle.encoded.specs.Blocks.{take_opcode, request_opcode, cancel_opcode, tick_opcode, switch_opcode, get_paired_opcode, led_opcode, list_opcode, store_opcode, restore_opcode}
+use Rattle.encoded.specs.Blocks.{Header, take_opcode, request_opcode, cancel_opcode, tick_opcode, switch_opcode, get_paired_opcode, led_opcode, list_opcode, store_opcode, restore_opcode}
 use Rattle.encoded.specs.Decoding.{calls, decode}
 
 -- the number of values of a byte

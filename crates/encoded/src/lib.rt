@@ -4,15 +4,15 @@
 ghost use Rattle.std.specs.Prelude.{◌≡◌, [], length};
 ghost use Rattle.station.specs.Stations.{fresh_station};
 ghost use Rattle.sequence.specs.Steps.{writer_rule, restore};
-ghost use Rattle.encoded.specs.Blocks.{lent_size, block_writer, block_call};
+ghost use Rattle.encoded.specs.Blocks.{lent_size, block_call};
 ghost use Rattle.encoded.specs.EncodedRuns.{encoded_rule};
-ghost use Rattle.encoded.specs.EncodedContracts.{run_number, MadePromise, CheckPromise, Ready, EncodedPromise, c_left, c_run_outcome};
+ghost use Rattle.encoded.specs.EncodedContracts.{writer_by, header_by, run_number, MadePromise, CheckPromise, Ready, EncodedPromise, c_left, c_run_outcome};
 ghost use Rattle.frame.specs.FrameContracts.{written_outcome};
 
 mod block;
 mod rows;
 
-use block::Header;
+use block::{Block, Op, Writer};
 use port::Called;
 use report::{Device, FeatureIndex, Refusal};
 use station::Station;
@@ -33,103 +33,101 @@ impl From<RunRefusal> for u8 {
 }
 
 // The number of bytes of answers that the encoded calls give, where they are whole for an arena of `room` bytes.
-fn check(encoded: &[u8], room: usize) -> Option<usize>
+#[tactic(auto, using(crate::proofs::DecodingLaws::shorter, crate::proofs::CheckLaws::begun, crate::proofs::CheckLaws::more))]
+fn check(encoded: &[u8], mut room: usize) -> Option<usize>
     ensures { CheckPromise encoded.now room result }
 {
-    let mut at = 0;
-    let mut lent = 0;
+    let mut left = encoded;
     let mut size = 0;
-    while at < encoded.len() {
-        let h = block::read_header(&encoded[at..]);
-        if !block::is_whole(h, encoded.len() - at, room - lent) {
-            return None;
-        }
-        at += block::HEADER + usize::from(h.size);
-        lent += block::lent_size(h);
+    while !left.is_empty() {
+        let (block, rest) = block::first(left)?;
+        room = room.checked_sub(block.lent_size())?;
+        left = rest;
         size += rows::ROW;
     }
-    if lent < room {
-        return None;
-    }
-    Some(size)
+    if room == 0 { Some(size) } else { None }
 }
 
-// Makes the call that a header of a writer says.
-fn write(station: Station, h: Header, buffer: &mut [u8]) -> Result<usize, Refusal>
-    ensures { written_outcome result buffer.new ≡ writer_rule station (block_writer h) h.offset buffer.old }
+// Makes the call of a block that writes.
+fn write(
+    station: Station,
+    writer: Writer,
+    block: Block,
+    buffer: &mut [u8],
+) -> Result<usize, Refusal>
+    ensures { written_outcome result buffer.new ≡ writer_rule station (writer_by writer block.entry) block.entry.offset buffer.old }
 {
-    let offset = usize::from(h.offset);
-    match h.op {
-        block::SWITCH => station.switch(h.a, h.b, buffer, offset),
-        block::GET_PAIRED => station.get_paired(buffer, offset),
-        block::LED => station.led(Device(h.a), h.b, buffer, offset),
-        block::LIST => station.list(buffer, offset),
-        _ => station.store(buffer, offset),
+    let offset = usize::from(block.offset);
+    match writer {
+        Writer::Switch => station.switch(block.a, block.b, buffer, offset),
+        Writer::GetPaired => station.get_paired(buffer, offset),
+        Writer::Led => station.led(Device(block.a), block.b, buffer, offset),
+        Writer::List => station.list(buffer, offset),
+        Writer::Store => station.store(buffer, offset),
+    }
+}
+
+// What a call gives, with its answer as a row.
+fn in_row<A, F: Fn(A) -> [u8; rows::ROW]>(
+    called: Called<A, Station>,
+    row: F,
+) -> Called<[u8; rows::ROW], Station>
+    requires { F.IsAlwaysCallable row }
+    ensures row { F.post row called.answer result.answer }
+    ensures next { result.next ≡ called.next }
+{
+    Called {
+        answer: row(called.answer),
+        next: called.next,
     }
 }
 
 // Reads a store: it is lent no buffer.
+#[tactic(auto, unfolding(sequence::specs::Steps::step, crate::specs::Rows::encode_answer))]
 fn restore_from(station: Station, text: &[u8]) -> Called<[u8; rows::ROW], Station>
     ensures { MadePromise station (restore text.now) result [] }
 {
-    let read = station.restore(text);
-    Called {
-        answer: rows::of_restored(read.answer),
-        next: read.next,
-    }
+    in_row(station.restore(text), rows::of_restored)
 }
 
-// Makes the call that a header and its data say, on a buffer of the length that it says, and answers the row of its answer.
-fn call(
-    station: Station,
-    h: Header,
-    bytes: &[u8],
-    buffer: &mut [u8],
-) -> Called<[u8; rows::ROW], Station>
-    requires { length buffer.old ≡ lent_size h }
-    ensures { MadePromise station (block_call h bytes.now buffer.old) result buffer.new }
+// Makes the call of a block, on a buffer of the length that it is lent, and answers the row of its answer.
+#[tactic(auto, unfolding(sequence::specs::Steps::step, crate::specs::Rows::encode_answer, crate::specs::Blocks::lent_size, crate::specs::Blocks::block_writer, crate::specs::Blocks::block_call))]
+fn call(station: Station, block: Block, buffer: &mut [u8]) -> Called<[u8; rows::ROW], Station>
+    requires { length buffer.old ≡ lent_size (header_by block) }
+    ensures { MadePromise station (block_call (header_by block.entry) block.entry.body.now buffer.old) result buffer.new }
 {
-    let device = Device(h.a);
-    let byte2 = FeatureIndex(h.b);
-    match h.op {
-        block::TAKE => {
-            let taken = station.take(bytes);
-            Called {
-                answer: rows::of_taken(taken.answer),
-                next: taken.next,
-            }
+    let device = Device(block.a);
+    let byte2 = FeatureIndex(block.b);
+    let byte3 = block.c;
+    match block.op {
+        Op::Take => in_row(station.take(block.body), rows::of_taken),
+        Op::Request => {
+            let offset = usize::from(block.offset);
+            in_row(
+                station.request(
+                    device,
+                    byte2,
+                    byte3,
+                    block.ticks,
+                    block.body,
+                    buffer,
+                    offset,
+                ),
+                rows::of_written,
+            )
         }
-        block::REQUEST => {
-            let offset = usize::from(h.offset);
-            let asked = station.request(device, byte2, h.c, h.ticks, bytes, buffer, offset);
-            Called {
-                answer: rows::of_written(asked.answer),
-                next: asked.next,
-            }
-        }
-        block::CANCEL => {
-            let cancelled = station.cancel(device, byte2, h.c);
-            Called {
-                answer: rows::of_cancelled(cancelled.answer),
-                next: cancelled.next,
-            }
-        }
-        block::TICK => {
-            let ticked = station.tick();
-            Called {
-                answer: rows::of_ticked(ticked.answer),
-                next: ticked.next,
-            }
-        }
-        block::RESTORE => restore_from(station, bytes),
-        _ => Called {
-            answer: rows::of_written(write(station, h, buffer)),
+        Op::Cancel => in_row(station.cancel(device, byte2, byte3), rows::of_cancelled),
+        Op::Tick => in_row(station.tick(), rows::of_ticked),
+        Op::Write(writer) => Called {
+            answer: rows::of_written(write(station, writer, block, buffer)),
             next: station,
         },
+        Op::Restore => restore_from(station, block.body),
     }
 }
 
 // Makes the calls one after the other, each on the station that the one before it handed back.
+#[tactic(auto, using(crate::proofs::DecodingLaws::shorter, crate::proofs::PerformLaws::begun, crate::proofs::PerformLaws::part_for, crate::proofs::PerformLaws::more))]
 fn perform(
     station: Station,
     encoded: &[u8],
@@ -140,20 +138,16 @@ fn perform(
     ensures { EncodedPromise station encoded.now arena.old answers.old result arena.new answers.new }
 {
     let mut next = station;
-    let mut at = 0;
+    let mut left = encoded;
     let mut lent = 0;
     let mut size = 0;
-    while at < encoded.len() {
-        let h = block::read_header(&encoded[at..]);
-        let body = at + block::HEADER;
-        let end = body + usize::from(h.size);
-        let part = lent + block::lent_size(h);
-        let called = call(next, h, &encoded[body..end], &mut arena[lent..part]);
-        let row = called.row;
-        let after = text::put_word(answers, size, &row);
-        let left = called.station;
-        next = left;
-        at = end;
+    while let Some((block, rest)) = block::first(left) {
+        let part = lent + block.lent_size();
+        let called = call(next, block, &mut arena[lent..part]);
+        let after = size + rows::ROW;
+        answers[size..after].copy_from_slice(&called.answer);
+        next = called.next;
+        left = rest;
         lent = part;
         size = after;
     }

@@ -1,11 +1,10 @@
 -- `encoded::check` meets its contract. The loop's state is `Checking`: what is left of the encoded decodes to what is left of the whole.
-use Prim.Native.Nat.{◌-◌}
-use lib.ListN.{length}
+use Rattle.std.proofs.Common.{length}
 use Rattle.encoded.proofs.CheckLaws.{Checking}
 use Rattle.encoded.proofs.check.Given as goal
 
-abbrev pub invariant-loop-at : goal.invariant-loop-at
-invariant-loop-at l = Checking l.encoded l.room l.at l.lent l.size
+abbrev pub invariant-loop-left : goal.invariant-loop-left
+invariant-loop-left l = Checking l.encoded l.initial.room l.left l.room l.size
 
-abbrev pub decreases-loop-at : goal.decreases-loop-at
-decreases-loop-at l = length l.encoded - l.at
+abbrev pub decreases-loop-left : goal.decreases-loop-left
+decreases-loop-left l = length l.left

@@ -1,18 +1,10 @@
 -- `encoded::run_encoded` meets its contract: 31, then 10, then the calls.
-use mathlib.Core.Path.{refl, sym, ◌∙◌, ap}
-use Rattle.encoded.specs.EncodedContracts.{checked_of}
-use Rattle.encoded.proofs.PerformLaws.{is_malformed, has_no_room, is_ready_law}
+use Rattle.std.proofs.Common.{refl}
+use Rattle.encoded.proofs.PerformLaws.{is_malformed, has_no_room}
 use Rattle.encoded.proofs.run_encoded.Goals as goal
 
-pub returns-then-answers-size : goal.returns-then-answers-size
-returns-then-answers-size c = record {
-  by_rule = simp c.number.ensures.number (has_no_room _ _ _ _ (sym (ap checked_of c.in-Answers.is) ∙ c.check.ensures _ refl) c.if-answers-size.true);
-}
+pub returns-in-None : goal.returns-in-None
+returns-in-None c = record { by_rule = is_malformed _ _ _ _ (c.in-None.ensures _ refl) }
 
-pub perform-requires : goal.perform-requires
-perform-requires c = is_ready_law c.args.station _ _ _ (sym (ap checked_of c.in-Answers.is) ∙ c.check.ensures _ refl) c.if-answers-size.false
-
-pub returns-in-Malformed : goal.returns-in-Malformed
-returns-in-Malformed c = record {
-  by_rule = is_malformed _ _ _ _ (sym (ap checked_of c.in-Malformed.is) ∙ c.check.ensures _ refl);
-}
+pub returns-in-Some : goal.returns-in-Some
+returns-in-Some c = record { by_rule = has_no_room _ _ _ _ (c.in-Some.ensures _ refl) c.if-answers-size.true }
