@@ -348,7 +348,7 @@ module _ (d : Demands) where
       go false = refl
 
   -- what a tick says of a port is what it ended there: what waited waits or is counted
-  tick_counts : (st : Station) → Reached st → (r : TickCalled) → Ensured st tick (tick_step (tick_outcome r)) → (n : ℕ) → is_port n ≡ true → waiting_on (port_for r.next n) + ended_in_all n (ending_of n tick (ticked r.ended)) ≡ waiting_on (port_for st n) + 0
+  tick_counts : (st : Station) → Reached st → (r : TickCalled) → Ensured st tick (tick_step (tick_outcome r)) → (n : ℕ) → is_port n ≡ true → waiting_on (port_for r.next n) + ended_in_all n (ending_of n tick (ticked r.answer)) ≡ waiting_on (port_for st n) + 0
   unfolding begins
   tick_counts st k r e n h = (d.counts st k tick (tick_step (tick_outcome r)) e refl n h).balance
 

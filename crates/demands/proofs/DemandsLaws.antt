@@ -157,7 +157,7 @@ demands =
       compares_count = λ n o q xs ys a b e. let h = same_count e in cc (a, b, h);
       orders = histories.orders;
       cut = histories.cut;
-      accounted = λ n h st begun ms k unread. let r = histories.history st ms k in accounted_so n st ms r.entries r.next (complete.accounted n h st begun (map call_of ms) unread);
+      accounted = λ n h st begun ms k unread. let r = histories.history st ms k in accounted_so n st ms r.entries r.station (complete.accounted n h st begun (map call_of ms) unread);
       runs = λ κ κ' κ'' st encoded arena arena_after answers answers_after r e. demand3.run_encoded st encoded.now arena.now answers.now r arena_after.now answers_after.now e;
       rows = λ κ κ' κ'' st encoded arena arena_after answers answers_after r e seven. demand3.program_rows st seven encoded.now arena.now answers.now r arena_after.now answers_after.now e;
       of_the_rules = complete;

@@ -70,11 +70,13 @@ fn take_weight(answer: Result<Taken, Refusal>) -> u64
         Ok(Taken::Failed { about, code, kind }) => {
             about_weight(5000 + u16::from(code) + u16::from(u8::from(kind)), about)
         }
-        Ok(Taken::Radio {
-            kind,
-            start,
-            length,
-        }) => 6000 + u64::from(kind) + u64::from(start) + u64::from(length),
+        Ok(
+            Taken::Radio {
+                kind,
+                start,
+                length,
+            },
+        ) => 6000 + u64::from(kind) + u64::from(start) + u64::from(length),
         Ok(Taken::Noticed(_)) => 7000,
     }
 }
@@ -100,7 +102,13 @@ fn cancel_weight(answer: Result<(), Refusal>) -> u64
 fn tick_weight(ended: [u8; port::PORTS]) -> u64
     ensures { result ≡ tick_weight ended }
 {
-    ended.iter().map(|count| u64::from(*count)).sum()
+    u64::from(ended[0])
+        + u64::from(ended[1])
+        + u64::from(ended[2])
+        + u64::from(ended[3])
+        + u64::from(ended[4])
+        + u64::from(ended[5])
+        + u64::from(ended[6])
 }
 
 fn restore_weight(answer: Result<(), NotRestored>) -> u64
@@ -131,16 +139,17 @@ pub extern "C" fn blotterfinch_measure(calls: &[u8], text: &[u8], buffer: &mut [
         let at = CALL * i;
         let kind = calls[at];
         let start = at + HEAD;
-        let end = start + usize::from(calls[at + 1] % ROOM);
+        let end = start + (calls[at + 1] % ROOM) as usize;
         let device = Device(calls[at + 2]);
         let byte2 = FeatureIndex(calls[at + 3]);
         let byte3 = calls[at + 4];
         let ticks = u16::from(calls[at + 5]);
-        let weight = match kind {
+        match kind {
             TAKE => {
                 let taken = s.take(&calls[start..end]);
                 s = taken.next;
-                take_weight(taken.answer)
+                sum = sum.wrapping_add(take_weight(taken.answer));
+                continue;
             }
             REQUEST => {
                 let requested = s.request(
@@ -153,27 +162,36 @@ pub extern "C" fn blotterfinch_measure(calls: &[u8], text: &[u8], buffer: &mut [
                     0,
                 );
                 s = requested.next;
-                write_weight(requested.answer)
+                sum = sum.wrapping_add(write_weight(requested.answer));
+                continue;
             }
             CANCEL => {
                 let cancelled = s.cancel(device, byte2, byte3);
                 s = cancelled.next;
-                cancel_weight(cancelled.answer)
+                sum = sum.wrapping_add(cancel_weight(cancelled.answer));
+                continue;
             }
             TICK => {
                 let ticked = s.tick();
                 s = ticked.next;
-                tick_weight(ticked.answer)
+                sum = sum.wrapping_add(tick_weight(ticked.answer));
+                continue;
             }
-            STORE => write_weight(s.store(buffer, 0)),
+            STORE => {
+                sum = sum.wrapping_add(write_weight(s.store(buffer, 0)));
+                continue;
+            }
             RESTORE => {
                 let restored = s.restore(text);
                 s = restored.next;
-                restore_weight(restored.answer)
+                sum = sum.wrapping_add(restore_weight(restored.answer));
+                continue;
             }
-            _ => write_weight(s.list(buffer, 0)),
-        };
-        sum = sum.wrapping_add(weight);
+            _ => {
+                sum = sum.wrapping_add(write_weight(s.list(buffer, 0)));
+                continue;
+            }
+        }
     }
     sum
 }
