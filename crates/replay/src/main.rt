@@ -26,23 +26,21 @@ enum Failure {
     Write(Error),
 }
 
-// Answers a script, and whether all of it was read, answered and written; a read or a write that fails ends the run. While whole lines wait for room in the output buffer nothing can be read. A proved loop has to end, and nothing says that a script does: the turns are counted down from a number that no run uses up.
+// Answers a script, and whether all of it was read, answered and written; a read or a write that fails ends the run. While whole lines wait for room in the output buffer nothing can be read. A proved loop has to end, and nothing says that a script does: the turns are counted up to a number that no run reaches.
 fn replay(script: &mut impl Read, answers: &impl Print) -> Result<bool, Failure> {
-    let mut input_space = [0; 65536];
-    let mut output_space = [0; 65536];
-    let buffer: &mut [u8] = &mut input_space;
-    let output: &mut [u8] = &mut output_space;
+    let mut buffer = [0; 65536];
+    let mut output = [0; 65536];
     let mut state = replay_feed::start();
-    let mut turns = u64::MAX;
-    while turns > 0 && state.going {
-        let at = replay_feed::read_offset(state, buffer);
+    for _ in 0..u64::MAX {
+        if !state.going {
+            break;
+        }
+        let at = replay_feed::read_offset(state, &buffer);
         let count = script.read(&mut buffer[at..]).map_err(Failure::Read)?;
-        state = replay_feed::turn(state, buffer, count, output);
-        let filled = state.filled;
+        state = replay_feed::turn(state, &mut buffer, count, &mut output);
         answers
-            .write_all(&output[..filled])
+            .write_all(&output[..state.filled])
             .map_err(Failure::Write)?;
-        turns -= 1;
     }
     Ok(state.whole)
 }

@@ -1,142 +1,49 @@
 -- Laws of the functions of a turn: what they leave in the buffers is what the rule gives.
-use Rattle.std.specs.Prelude.{ℕ, suc, ◌+◌, ◌-◌, ◌≤◌, ◌<◌, ◌≡◌, refl, Bool, true, false, cond, ◌&&◌, eqb, take, drop, set}
-use Rattle.std.proofs.Common.{sym, ◌∙◌, subst, add-one, not-suc-le-zero, arith, length-set, length-drop, length-take-le, drop_at, drop-drop, take-add, take-suc-set}
+use Rattle.std.specs.Prelude.{ℕ, suc, ◌+◌, ◌-◌, ◌≤◌, ◌<◌, ◌≡◌, refl, Bool, true, false, cond, not, None, Some, ◌&&◌, eqb, take, drop, set}
+use Rattle.std.proofs.Common.{sym, ◌∙◌, subst, add-one, not-suc-le-zero, arith, length-drop, length-take-le, drop_at, drop-drop, drop_of_length-le, take-add, take-suc-set}
 use Rattle.std.proofs.Math.Path.{ap}
-use Rattle.std.proofs.lemmas.Bool.{false≢true}
 use mathlib.Core.List.{List, [], ◌∷◌, ◌++◌}
 use Rattle.std.proofs.Math.ListN.{length}
 use Rattle.std.proofs.lemmas.List.{drop-append-le}
 use borrow.Author.Tests.{eq-eqb, ne_eqb}
-use Rattle.replay_script.specs.Finding.{index_of, index_after, slice}
+use Rattle.replay_script.specs.Finding.{index_of, index_after, slice, found_in}
 use Rattle.station.specs.declared.Station.{Station}
 use Rattle.replay_script.specs.declared.Progress.{Progress}
 use Rattle.replay_script.specs.ScriptContracts.{share_of}
+use Rattle.replay_script.proofs.FindingLaws.{Found, found, not_found}
 use Rattle.text.specs.Words.{newline}
-use Rattle.replay_script.specs.Shares.{share_rule}
+use Rattle.replay_script.specs.Shares.{share_after, share_rule}
 use Rattle.replay_feed.specs.declared.State.{State}
-use Rattle.replay_feed.specs.declared.input.Held.{Held}
-use Rattle.replay_feed.specs.LongLines.{held_text, held_cut}
 use Rattle.replay_feed.specs.InputContracts.{Moves}
-use Rattle.replay_feed.specs.Turns.{is_nothing, from_newline, Turned, lines_wait, line_held, answered, passed_over, feed_rule, script_ended, ended_with, end_rule}
-use Rattle.replay_feed.specs.TurnContracts.{held_of, input_of, pending_of, turned_of, Standing}
+use Rattle.replay_feed.specs.Turns.{is_nothing, from_newline, Turned, lines_wait, answered, passed_over, feed_rule, script_ended, ended_with, end_rule}
+use Rattle.replay_feed.specs.TurnContracts.{held_of, input_of, pending_of, turned_of}
+use Rattle.replay_feed.proofs.MoveLaws.{part_is}
 
 pub empty_size : (t : List ℕ) {n : ℕ} → length t ≡ n → is_nothing t ≡ eqb n 0
 empty_size [] {n} e = sym (eq-eqb n 0 (sym e))
 empty_size (c ∷ t) {n} e = sym (ne_eqb n 0 (λ z. omega (arith, e, z)))
 
--- the part of a buffer between two offsets
-part_is : (b : List ℕ) (start size : ℕ) → start ≤ size → size ≤ length b → take (size - start) (drop start b) ≡ drop start (take size b)
-part_is b start size h room =
-    let e : start + (size - start) ≡ size = omega arith in
-    sym (drop_at (take start b) (take (size - start) (drop start b)) start (length-take-le start b (omega (arith, h, room))))
-    ∙ ap (drop start) (sym (take-add start (size - start) b))
-    ∙ ap (λ (n : ℕ). drop start (take n b)) e
-
--- a part that is answered
-module _ (st : Station) (number : ℕ) (b : List ℕ) (start size : ℕ) (ordered : start ≤ size) (within : size ≤ length b) (r : Progress) (room : ℕ) (out : List ℕ) where
-  abbrev part : List ℕ
-  part = take (size - start) (drop start b)
-
+-- whole lines that are answered: others wait, or none is left
+module _ (st : Station) (number : ℕ) (b : List ℕ) (start size : ℕ) (ordered : start ≤ size) (r : Progress) (room : ℕ) (out : List ℕ) where
   abbrev held : List ℕ
   held = drop start (take size b)
 
-  part_size : length part ≡ size - start
-  part_size = length-take-le (size - start) (drop start b) (omega (arith, length-drop start b, within))
+  abbrev left : List ℕ
+  left = drop r.used held
 
-  pub used_within : r.used ≤ length part → start + r.used ≤ size
-  used_within h = omega (arith, h, part_size, ordered)
+  abbrev leaves : List ℕ → (waits : Bool) → Turned
+  leaves l waits =
+      record { text = take r.filled out; after = record { station = r.station; number = r.number; held = l; cut = false; reading = false; going = waits; whole = not waits } }
 
-  -- what is left of the part, with the flags that say what follows
-  abbrev leaving : (reading going whole : Bool) → State
-  leaving reading going whole =
-      record {
-        station = r.station;
-        number = r.number;
-        start = start + r.used;
-        size = size;
-        cut = false;
-        reading = reading;
-        going = going;
-        whole = whole;
-        filled = r.filled;
-      }
+  by_full : (t : Bool) → leaves left t ≡ record { text = take r.filled out; after = cond t (lines_wait (share_of r held out)) (script_ended r.station r.number left) }
+  by_full true = refl
+  by_full false = refl
 
-  module _ (answers : share_of r part out ≡ share_rule st number part room) where
-    answers_held : share_of r held out ≡ share_rule st number held room
-    answers_held =
-        subst (λ (l : List ℕ). share_of r l out ≡ share_rule st number l room) (part_is b start size ordered within) answers
-
-    abbrev left : List ℕ
-    left = drop r.used held
-
-    left_is : drop (start + r.used) (take size b) ≡ left
-    left_is = sym (drop-drop r.used start (take size b))
-
-    leaves : (reading going whole : Bool) → turned_of (leaving reading going whole) b out ≡ record { text = take r.filled out; after = record { station = r.station; number = r.number; held = left; cut = false; reading = reading; going = going; whole = whole } }
-    leaves reading going whole =
-        ap (λ (l : List ℕ). record { text = take r.filled out; after = record { station = r.station; number = r.number; held = l; cut = false; reading = reading; going = going; whole = whole } }) left_is
-
-    pub waits : r.full ≡ true → turned_of (leaving false true false) b out ≡ answered (length b) (share_rule st number held room)
-    waits is_full_law =
-        leaves false true false
-        ∙ ap (λ (t : Bool). record { text = take r.filled out; after = cond t (lines_wait (share_of r held out)) (line_held (length b) (share_of r held out)) }) (sym is_full_law)
-        ∙ ap (answered (length b)) answers_held
-
-    abbrev last : Bool → Turned
-    last t = record { text = take r.filled out; after = cond t (lines_wait (share_of r held out)) (script_ended r.station r.number left) }
-
-    pub waits_at_end : r.full ≡ true → turned_of (leaving false true false) b out ≡ ended_with (share_rule st number held room)
-    waits_at_end is_full_law = leaves false true false ∙ ap last (sym is_full_law) ∙ ap ended_with answers_held
-
-    pub ends : r.full ≡ false → turned_of (leaving false false true) b out ≡ ended_with (share_rule st number held room)
-    ends not_full = leaves false false true ∙ ap last (sym not_full) ∙ ap ended_with answers_held
-
-    pub left_stands : (going whole : Bool) → r.used ≤ length part → r.filled ≤ length out → Standing (leaving false going whole) b out
-    left_stands going whole used filled =
-        record {
-          ordered = used_within used;
-          within = within;
-          room = λ e. absurd (false≢true e);
-          filled = filled;
-        }
-
-    -- no whole line is left: what is left is moved down and held
-    module _ (not_full : r.full ≡ false) {n : ℕ} {b₁ : List ℕ} (m : Moves 0 (start + r.used) size b n b₁) (same : length b ≡ length b₁) (h : Held) (b₂ : List ℕ) where
-      abbrev holding : State
-      holding =
-          record {
-            station = r.station;
-            number = r.number;
-            start = 0;
-            size = h.size;
-            cut = h.cut;
-            reading = true;
-            going = true;
-            whole = false;
-            filled = r.filled;
-          }
-
-      abbrev part_held : List ℕ → Bool → Turned
-      part_held l t = record { text = take r.filled out; after = record { station = r.station; number = r.number; held = l; cut = t; reading = true; going = true; whole = false } }
-
-      moved_is : take n b₁ ≡ left
-      moved_is = m.text ∙ left_is
-
-      pub holds : take h.size b₂ ≡ held_text (length b₁) (take n b₁) → h.cut ≡ held_cut (length b₁) (take n b₁) → turned_of holding b₂ out ≡ answered (length b) (share_rule st number held room)
-      holds text cut =
-          ap (λ (l : List ℕ). part_held l h.cut) (text ∙ ap (held_text (length b₁)) moved_is ∙ ap (λ (k : ℕ). held_text k left) (sym same))
-          ∙ ap (part_held (held_text (length b) left)) (cut ∙ ap (held_cut (length b₁)) moved_is ∙ ap (λ (k : ℕ). held_cut k left) (sym same))
-          ∙ ap (λ (t : Bool). record { text = take r.filled out; after = cond t (lines_wait (share_of r held out)) (line_held (length b) (share_of r held out)) }) (sym not_full)
-          ∙ ap (answered (length b)) answers_held
-
-      pub held_stands : h.size < length b₂ → r.filled ≤ length out → Standing holding b₂ out
-      held_stands fits filled =
-          record {
-            ordered = omega arith;
-            within = omega (arith, fits);
-            room = λ e. fits;
-            filled = filled;
-          }
+  pub lines_answered : share_of r (take (size - start) (drop start b)) out ≡ share_rule st number (take (size - start) (drop start b)) room → turned_of (record { station = r.station; number = r.number; start = start + r.used; size = size; cut = false; reading = false; going = r.full; whole = not r.full; filled = r.filled }) b out ≡ ended_with (share_rule st number held room)
+  lines_answered answers =
+      ap (λ (l : List ℕ). leaves l r.full) (sym (drop-drop r.used start (take size b)))
+      ∙ by_full r.full
+      ∙ ap ended_with (subst (λ (l : List ℕ). share_of r l out ≡ share_rule st number l room) (part_is b start size ordered) answers)
 
 -- the text of what is held and what is read behind it
 behind : (b : List ℕ) (start size count : ℕ) → start ≤ size → size + count ≤ length b → drop start (take (size + count) b) ≡ drop start (take size b) ++ take count (drop size b)
@@ -192,53 +99,34 @@ module _ (s : State) (b : List ℕ) (count room : ℕ) (ordered : s.start ≤ s.
       ∙ ap (λ (l : List ℕ). answered (length b) (share_rule s.station s.number l room)) (behind b s.start s.size count ordered fits)
       ∙ ap (λ (t : Bool). fed t (is_nothing (from_newline input))) (sym e)
 
-  module _ (is_cut : s.cut ≡ true) {at : ℕ} (found : at ≡ s.size + index_of newline (slice s.size (s.size + count) b)) where
-    at_is : at ≡ s.size + index_of newline input
-    unfolding slice
-    at_is = found ∙ ap (λ (l : List ℕ). s.size + index_of newline l) input_is
-
-    -- there is no newline
-    abbrev passing : State
-    passing =
-        record {
-          station = s.station;
-          number = s.number;
-          start = s.start;
-          size = s.size;
-          cut = true;
-          reading = true;
-          going = true;
-          whole = false;
-          filled = 0;
-        }
-
-    pub passes : (out : List ℕ) → at ≡ s.size + count → turned_of passing b out ≡ feed_rule (length b) room (pending_of s b) input
-    unfolding feed_rule
-    passes out e =
-        ap (fed true) (sym (ap is_nothing (no_newline input (omega (arith, at_is, e, input_size)))))
+  -- a line that is cut goes on
+  module _ (is_cut : s.cut ≡ true) where
+    pub passes : (out : List ℕ) → None ≡ found_in newline s.size (s.size + count) b → turned_of (record s { reading = true; going = true; whole = false; filled = 0 }) b out ≡ feed_rule (length b) room (pending_of s b) input
+    unfolding feed_rule slice
+    passes out none =
+        let past : length input ≤ index_of newline input = subst (λ (l : List ℕ). length l ≤ index_of newline l) input_is (not_found newline s.size (s.size + count) b none) in
+        ap (λ (t : Bool). record { text = []; after = record { station = s.station; number = s.number; held = held_of s b; cut = t; reading = true; going = true; whole = false } }) is_cut
+        ∙ ap (fed true) (sym (ap is_nothing (no_newline input past)))
         ∙ ap (λ (t : Bool). fed t (is_nothing (from_newline input))) (sym is_cut)
 
-    pub passing_stands : (out : List ℕ) → s.size < length b → Standing passing b out
-    passing_stands out free =
-        record {
-          ordered = ordered;
-          within = omega (arith, free);
-          room = λ e. free;
-          filled = omega arith;
-        }
-
-    -- there is one: what follows it is moved behind what is held
-    pub resumes : {n : ℕ} {b₁ : List ℕ} {turned : Turned} → (at ≡ s.size + count → ⊥) → at ≤ s.size + count → Moves s.size at (s.size + count) b n b₁ → length b ≡ length b₁ → turned ≡ answered (length b₁) (share_rule s.station s.number (drop s.start (take n b₁)) room) → turned ≡ feed_rule (length b) room (pending_of s b) input
-    unfolding feed_rule
-    resumes {n} {b₁} not_last bound m same k =
+    -- it ends: what follows it is moved behind what is held
+    pub resumes : {at n : ℕ} {b₁ : List ℕ} {turned : Turned} → Some at ≡ found_in newline s.size (s.size + count) b → Moves s.size at (s.size + count) b n b₁ → length b ≡ length b₁ → turned ≡ answered (length b₁) (share_rule s.station s.number (drop s.start (take n b₁)) room) → turned ≡ feed_rule (length b) room (pending_of s b) input
+    unfolding feed_rule slice
+    resumes {at} {n} {b₁} is m same k =
         k
         ∙ ap (λ (size : ℕ). answered size (share_rule s.station s.number (drop s.start (take n b₁)) room)) (sym same)
         ∙ ap (λ (l : List ℕ). answered (length b) (share_rule s.station s.number l room)) held_is
         ∙ ap (fed true) (sym some)
         ∙ ap (λ (t : Bool). fed t (is_nothing (from_newline input))) (sym is_cut)
       where
+        there : Found newline s.size (s.size + count) b at
+        there = found newline s.size (s.size + count) b is
+
+        at_is : at ≡ s.size + index_of newline input
+        at_is = subst (λ (l : List ℕ). at ≡ s.size + index_of newline l) input_is there.so
+
         index : index_of newline input < length input
-        index = omega (arith, at_is, bound, not_last, input_size)
+        index = subst (λ (l : List ℕ). index_of newline l < length l) input_is there.within
 
         some : is_nothing (from_newline input) ≡ false
         some =
@@ -265,39 +153,33 @@ module _ (s : State) (b : List ℕ) (room : ℕ) (ordered : s.start ≤ s.size) 
       length-drop s.start (take s.size b)
       ∙ ap (λ (n : ℕ). n - s.start) (length-take-le s.size b (omega (arith, free)))
 
-  abbrev ended : List ℕ
-  ended = set b s.size newline
-
   abbrev ending : Bool → Turned
   ending t =
       cond t (record { text = []; after = script_ended s.station s.number (held_of s b) })
       (ended_with (share_rule s.station s.number (held_of s b ++ (newline ∷ [])) room))
 
-  pub nothing_left : (out : List ℕ) → s.start ≡ s.size → turned_of (record { station = s.station; number = s.number; start = s.start; size = s.size; cut = false; reading = false; going = false; whole = true; filled = 0 }) b out ≡ end_rule room (pending_of s b)
-  unfolding end_rule
-  nothing_left out e = ap ending (sym (empty_size (held_of s b) held_size ∙ eq-eqb (s.size - s.start) 0 (omega (arith, e))))
+  -- what is answered lies in a buffer up to an offset
+  module _ {size : ℕ} {b₁ : List ℕ} {turned : Turned} (so : turned ≡ ended_with (share_rule s.station s.number (drop s.start (take size b₁)) room)) where
+    pub nothing_left : s.size ≤ s.start → b₁ ≡ b → size ≡ s.size → turned ≡ end_rule room (pending_of s b)
+    unfolding end_rule share_rule share_after
+    nothing_left none same_buffer same_size =
+        let empty : held_of s b ≡ [] = drop_of_length-le (take s.size b) (omega (arith, none, length-take-le s.size b (omega (arith, free)))) in
+        so
+        ∙ ap (λ (l : List ℕ). ended_with (share_rule s.station s.number (drop s.start (take size l)) room)) same_buffer
+        ∙ ap (λ (n : ℕ). ended_with (share_rule s.station s.number (drop s.start (take n b)) room)) same_size
+        ∙ ap (λ (l : List ℕ). ended_with (share_rule s.station s.number l room)) empty
+        ∙ sym (ap (λ (l : List ℕ). cond (is_nothing l) (record { text = []; after = script_ended s.station s.number l }) (ended_with (share_rule s.station s.number (l ++ (newline ∷ [])) room))) empty)
 
-  pub nothing_stands : (out : List ℕ) → Standing (record { station = s.station; number = s.number; start = s.start; size = s.size; cut = false; reading = false; going = false; whole = true; filled = 0 }) b out
-  nothing_stands out =
-      record {
-        ordered = ordered;
-        within = omega (arith, free);
-        room = λ e. absurd (false≢true e);
-        filled = omega arith;
-      }
-
-  pub ended_within : s.size + 1 ≤ length ended
-  ended_within = omega (arith, free, length-set b s.size newline)
-
-  ended_is : drop s.start (take (s.size + 1) ended) ≡ held_of s b ++ (newline ∷ [])
-  ended_is =
-      ap (λ (n : ℕ). drop s.start (take n ended)) (add-one s.size)
-      ∙ ap (drop s.start) (take-suc-set b s.size newline free)
-      ∙ drop-append-le s.start (take s.size b) (newline ∷ []) (omega (arith, ordered, length-take-le s.size b (omega (arith, free))))
-
-  pub last_answered : {turned : Turned} → (s.start ≡ s.size → ⊥) → turned ≡ ended_with (share_rule s.station s.number (drop s.start (take (s.size + 1) ended)) room) → turned ≡ end_rule room (pending_of s b)
-  unfolding end_rule
-  last_answered some k =
-      k
-      ∙ ap (λ (l : List ℕ). ended_with (share_rule s.station s.number l room)) ended_is
-      ∙ ap ending (sym (empty_size (held_of s b) held_size ∙ ne_eqb (s.size - s.start) 0 (λ e. some (omega (arith, ordered, e)))))
+    pub last_answered : s.start < s.size → b₁ ≡ set b s.size newline → size ≡ s.size + 1 → turned ≡ end_rule room (pending_of s b)
+    unfolding end_rule
+    last_answered some ended one_more =
+        so
+        ∙ ap (λ (l : List ℕ). ended_with (share_rule s.station s.number l room)) ended_is
+        ∙ ap ending (sym (empty_size (held_of s b) held_size ∙ ne_eqb (s.size - s.start) 0 (λ e. omega (arith, some, e))))
+      where
+        ended_is : drop s.start (take size b₁) ≡ held_of s b ++ (newline ∷ [])
+        ended_is =
+            ap (λ (n : ℕ). drop s.start (take n b₁)) (one_more ∙ add-one s.size)
+            ∙ ap (λ (l : List ℕ). drop s.start (take (suc s.size) l)) ended
+            ∙ ap (drop s.start) (take-suc-set b s.size newline free)
+            ∙ drop-append-le s.start (take s.size b) (newline ∷ []) (omega (arith, ordered, length-take-le s.size b (omega (arith, free))))

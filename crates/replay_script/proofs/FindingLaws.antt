@@ -1,9 +1,9 @@
 -- Laws of the first place of a byte: it is the one before which the byte is not, and a text without it has none.
-use Rattle.std.specs.Prelude.{ℕ, zero, suc, ◌+◌, ◌-◌, ◌<◌, ◌≤◌, ◌≡◌, refl, Bool, true, false, List, [], ◌∷◌, ◌==◌, length, get_or, take, drop, min}
-use Rattle.std.proofs.Common.{sym, ◌∙◌, ap, not-suc-le-zero, arith, length-drop, length-take, length-take-le, take_all, drop_of_length-le}
+use Rattle.std.specs.Prelude.{ℕ, zero, suc, ◌+◌, ◌-◌, ◌<◌, ◌≤◌, ◌≡◌, refl, Bool, true, false, cond, None, Some, List, [], ◌∷◌, ◌==◌, ltb, length, get_or, take, drop, min}
+use Rattle.std.proofs.Common.{sym, ◌∙◌, ap, not-suc-le-zero, arith, length-drop, length-take, length-take-le, take_all, drop_of_length-le, ltb-true, ltb-false, lt-ltb, le-ltb}
 use Rattle.std.proofs.Math.Decide.{dec_le}
 use Rattle.std.proofs.lemmas.List.{drop-take}
-use Rattle.replay_script.specs.Finding.{slice, index_after, index_of}
+use Rattle.replay_script.specs.Finding.{slice, index_after, index_of, found_in}
 
 -- whether the first byte is this one
 none_by : (t : Bool) (k n : ℕ) → (t ≡ true → ⊥) → k ≡ n → index_after t k ≡ suc n
@@ -42,11 +42,47 @@ unfolding index_of
 index_within byte [] = omega arith
 index_within byte (c ∷ text) = within_by (c == byte) (index_of byte text) (length text) (index_within byte text)
 
--- what is found in a part is within it
-pub found_within : (byte start end : ℕ) (text : List ℕ) {found : ℕ} → start ≤ end → end ≤ length text → found ≡ start + index_of byte (slice start end text) → found ≤ end
+part_size : (start end : ℕ) (text : List ℕ) → end ≤ length text → length (slice start end text) ≡ end - start
 unfolding slice
-found_within byte start end text h k e =
-    omega (arith, e, index_within byte (drop start (take end text)), length-drop start (take end text), length-take-le end text k)
+part_size start end text h = omega (arith, length-drop start (take end text), length-take-le end text h)
+
+-- what is found in a part is the first place, and within it
+pub record Found (byte start end : ℕ) (text : List ℕ) (place : ℕ) : Type 0 where
+  pub so : place ≡ start + index_of byte (slice start end text)
+  pub within : index_of byte (slice start end text) < length (slice start end text)
+
+module _ (byte start end : ℕ) (text : List ℕ) where
+  abbrev part : List ℕ
+  part = slice start end text
+
+  is_some : (t : Bool) {place : ℕ} → ltb (index_of byte part) (length part) ≡ t → Some place ≡ cond t (Some (start + index_of byte part)) None → Found byte start end text place
+  is_some true {place} e f =
+      record { so = cc; within = ltb-true (index_of byte part) (length part) e }
+  is_some false e f = absurd (let z : ◌≡◌ {A = ℕ} 0 1 = cc in omega arith)
+
+  pub found : {place : ℕ} → Some place ≡ found_in byte start end text → Found byte start end text place
+  unfolding found_in
+  found f = is_some (ltb (index_of byte part) (length part)) refl f
+
+  is_none : (t : Bool) → ltb (index_of byte part) (length part) ≡ t → None ≡ cond t (Some (start + index_of byte part)) None → length part ≤ index_of byte part
+  is_none true e f = absurd (let z : ◌≡◌ {A = ℕ} 0 1 = cc in omega arith)
+  is_none false e f = ltb-false (index_of byte part) (length part) e
+
+  -- where nothing is found, no place of the part is one of the byte
+  pub not_found : None ≡ found_in byte start end text → length part ≤ index_of byte part
+  unfolding found_in
+  not_found f = is_none (ltb (index_of byte part) (length part)) refl f
+
+  pub found_within : {place : ℕ} → end ≤ length text → Found byte start end text place → place < end
+  found_within h f = omega (arith, f.so, f.within, part_size start end text h)
+
+  some_is : index_of byte part < length part → Some (start + index_of byte part) ≡ found_in byte start end text
+  unfolding found_in
+  some_is h = sym (simp (lt-ltb (index_of byte part) (length part) h))
+
+  none_is : index_of byte part ≡ length part → None ≡ found_in byte start end text
+  unfolding found_in
+  none_is e = sym (simp (le-ltb (index_of byte part) (length part) (omega (arith, e))))
 
 -- a part ends with its text at the latest
 module _ (byte start end : ℕ) (text : List ℕ) (last : ℕ) (cut : last ≡ min end (length text)) where
@@ -63,12 +99,11 @@ module _ (byte start end : ℕ) (text : List ℕ) (last : ℕ) (cut : last ≡ m
           ap (drop start) (take_all end text (omega arith) ∙ sym (take_all last text e))
 
   -- it may be empty
-  pub nothing_found : last ≤ start → start ≡ start + index_of byte (slice start end text)
+  pub nothing_found : last ≤ start → None ≡ found_in byte start end text
   unfolding index_of
   nothing_found h =
       let none : slice start end text ≡ [] = ends_with_text ∙ drop_of_length-le (take last text) (omega (arith, length-take last text)) in
-      let sum : start ≡ start + 0 = omega arith in
-      sum ∙ ap (λ (l : List ℕ). start + index_of byte l) (sym none)
+      none_is byte start end text (ap (index_of byte) none ∙ sym (ap length none))
 
   module _ (some : start ≤ last) where
     counted : slice start end text ≡ take (last - start) (drop start text)
@@ -76,12 +111,12 @@ module _ (byte start end : ℕ) (text : List ℕ) (last : ℕ) (cut : last ≡ m
         let e : last ≡ start + (last - start) = omega arith in
         ends_with_text ∙ ap (λ (n : ℕ). drop start (take n text)) e ∙ drop-take start (last - start) text
 
-    pub first_found : (k : ℕ) → k < length (take (last - start) (drop start text)) → (get_or (take (last - start) (drop start text)) k 0 == byte) ≡ true → ((j : ℕ) → j < k → (get_or (take (last - start) (drop start text)) j 0 == byte) ≡ true → ⊥) → start + k ≡ start + index_of byte (slice start end text)
+    pub first_found : (k : ℕ) → k < length (take (last - start) (drop start text)) → (get_or (take (last - start) (drop start text)) k 0 == byte) ≡ true → ((j : ℕ) → j < k → (get_or (take (last - start) (drop start text)) j 0 == byte) ≡ true → ⊥) → Some (start + k) ≡ found_in byte start end text
     first_found k h e before =
-        ap (λ (n : ℕ). start + n) (sym (ap (index_of byte) counted ∙ index_is byte (take (last - start) (drop start text)) k h e before))
+        let is : index_of byte (slice start end text) ≡ k = ap (index_of byte) counted ∙ index_is byte (take (last - start) (drop start text)) k h e before in
+        ap (λ (n : ℕ). Some (start + n)) (sym is)
+        ∙ some_is byte start end text (omega (arith, is, h, ap length counted))
 
-    pub none_found : ((k : ℕ) → k < length (take (last - start) (drop start text)) → (get_or (take (last - start) (drop start text)) k 0 == byte) ≡ true → ⊥) → last ≡ start + index_of byte (slice start end text)
+    pub none_found : ((k : ℕ) → k < length (take (last - start) (drop start text)) → (get_or (take (last - start) (drop start text)) k 0 == byte) ≡ true → ⊥) → None ≡ found_in byte start end text
     none_found h =
-        let size : length (take (last - start) (drop start text)) ≡ last - start = length-take-le (last - start) (drop start text) (omega (arith, length-drop start text)) in
-        let sum : last ≡ start + length (take (last - start) (drop start text)) = omega (arith, size) in
-        sum ∙ ap (λ (n : ℕ). start + n) (sym (ap (index_of byte) counted ∙ index_none byte (take (last - start) (drop start text)) h))
+        none_is byte start end text (ap (index_of byte) counted ∙ index_none byte (take (last - start) (drop start text)) h ∙ sym (ap length counted))

@@ -1,24 +1,24 @@
 -- Laws of a text answered line by line: each newline ends a line, and the answers lie end to end in the output buffer.
-use Rattle.std.specs.Prelude.{◌≡◌, ℕ, suc, ◌+◌, ◌-◌, ◌<◌, ◌≤◌, Bool, true, false, cond, leb, List, [], ◌∷◌, ◌++◌, length, take, drop, ◌==◌, ◌≢◌, nat_le, refl, Ok, Err}
+use Rattle.std.specs.Prelude.{◌≡◌, ℕ, suc, ◌+◌, ◌-◌, ◌<◌, ◌≤◌, Bool, true, false, cond, leb, List, [], ◌∷◌, ◌++◌, length, take, drop, ◌==◌, nat_le, Option, None, Some, Ok, Err, refl}
+use Rattle.std.specs.Result.{result_unwrap_or}
 use Rattle.std.proofs.Common.{sym, ◌∙◌, subst, append_assoc, append-nil, not-suc-le-zero, arith, length-append, length-take-le, take_at, drop_at, drop-drop}
 use Rattle.std.proofs.Math.Path.{ap}
-use Rattle.std.proofs.Math.ListN.{length-drop}
 use Rattle.std.proofs.Math.Seq.{take-length}
 use borrow.Author.Tests.{le-leb, lt-leb}
-use Rattle.replay_script.specs.Finding.{index_of, index_after, slice}
+use Rattle.replay_script.specs.Finding.{index_of, index_after, slice, found_in}
 use Rattle.frame.specs.Writing as writing
-use Rattle.frame.specs.FrameContracts.{written_of, Written}
-use Rattle.report.specs.declared.Refusal.{Refusal}
-use Rattle.port.specs.declared.Called.{Called}
+use Rattle.frame.specs.FrameContracts.{Written, written_of}
 use Rattle.station.specs.declared.Station.{Station}
-use Rattle.replay_desk.specs.LineAnswers.{LineAnswer, LineOutcome, answer_room, put, answer_rule, command_rule}
-use Rattle.replay_desk.specs.DeskContracts.{answered_by, end_by}
-use Rattle.replay_line.specs.LineCalls.{line_rule}
-use Rattle.replay_script.specs.declared.Run.{Run}
+use Rattle.port.specs.declared.Called.{Called}
+use Rattle.replay_desk.specs.LineAnswers.{LineAnswer, LineOutcome, answer_room, put, answer_rule}
+use Rattle.replay_desk.specs.DeskContracts.{answered_by, end_by, end_of}
+use Rattle.report.specs.ReportContracts.{number_of}
+use Rattle.replay_script.specs.declared.Progress.{Progress}
 use Rattle.text.specs.Words.{newline}
 use Rattle.replay_script.specs.ReplayRuns.{next_number, answer_to}
 use Rattle.replay_script.specs.Shares.{Share, share_none, before_share, share_after, share_rule}
 use Rattle.replay_script.specs.ScriptContracts.{share_of, Adds}
+use Rattle.replay_script.proofs.FindingLaws.{Found, found, not_found, found_within}
 
 -- what the next whole line makes of the rest of a text
 abbrev share_line : Station → (number : ℕ) → (line rest whole : List ℕ) → (room : ℕ) → Share
@@ -58,89 +58,87 @@ no_line st number read [] room h = ap (λ (l : List ℕ). share_none st number l
 no_line st number read (c ∷ t) room h =
     none_by st number read c t room (index_of newline t) (c == newline) h (no_line st number (read ++ (c ∷ [])) t room)
 
--- an answer ends within the output
-pub line_end_law : {w : Written} {size : ℕ} (at room : ℕ) → w ≡ Ok size → end_by at w ≤ room → at + size ≤ room
-line_end_law at room e h = subst (λ (w : Written). end_by at w ≤ room) e h
-
 -- one answer: it has its room, so it is put
-module _ (run : Run) (line b : List ℕ) (number : ℕ) (r : Called Written Station) (b₁ : List ℕ) (room : writing.fits_at answer_room run.filled (length b) ≡ true) (next : number ≡ next_number run.number) (is : answered_by r b₁ ≡ answer_rule run.station number line run.filled b) where
-  is_put : answered_by r b₁ ≡ put (answer_to run.station run.number line) run.filled b
-  unfolding answer_rule
-  is_put =
-      is
-      ∙ (simp room)
-      ∙ ap (λ (n : ℕ). put (command_rule run.station n (line_rule line)) run.filled b) next
+module _ (run : Progress) (line b : List ℕ) (st : Station) (b₁ : List ℕ) where
+  abbrev told : LineAnswer
+  told = answer_to run.station run.number line
 
-  abbrev text : List ℕ
-  text = (answer_to run.station run.number line).text
-
-  pub refused_not : {w : Refusal} → r.answer ≢ Err w
-  refused_not {w} e =
-      let p : written_of (Err w) ≡ writing.wrote (length text) = sym (ap written_of e) ∙ ap (λ (o : LineOutcome). o.answer) is_put in
-      let z : ◌≡◌ {A = ℕ} 0 1 = cc in
-      omega arith
-
-  pub adds : {size : ℕ} → r.answer ≡ Ok size → run.filled + size ≤ length b₁ → Adds run line b (record { station = r.next; number = number; filled = run.filled + size }) b₁
-  adds {size} e h =
-      let p : writing.wrote size ≡ writing.wrote (length text) = sym (ap written_of e) ∙ ap (λ (o : LineOutcome). o.answer) is_put in
-      let same : size ≡ length text = cc in
+  put_by : (w : Written) → record { answer = written_of w; station = st; lent = b₁ } ≡ put told run.filled b → end_by run.filled w ≤ length b₁ → Adds run line b (record run { station = st; number = next_number run.number; filled = run.filled + result_unwrap_or w 0 }) b₁
+  put_by (Err e) is within =
+      let p : writing.refused (number_of e) ≡ writing.wrote (length told.text) = ap (λ (o : LineOutcome). o.answer) is in
+      absurd (let z : ◌≡◌ {A = ℕ} 0 1 = cc in omega arith)
+  put_by (Ok size) is within =
+      let p : writing.wrote size ≡ writing.wrote (length told.text) = ap (λ (o : LineOutcome). o.answer) is in
+      let same : size ≡ length told.text = cc in
       record {
-        text = ap (λ (o : LineOutcome). o.lent) is_put;
+        text = ap (λ (o : LineOutcome). o.lent) is;
         filled = ap (λ (n : ℕ). run.filled + n) same;
-        station = ap (λ (o : LineOutcome). o.station) is_put;
-        number = next;
-        within = h;
+        station = ap (λ (o : LineOutcome). o.station) is;
+        number = refl;
+        full = refl;
+        within = within;
       }
 
--- the lines of a text are answered up to an offset, from which the next newline is at another; what is left comes to what the rule gives
-pub record Answering (text out₀ : List ℕ) (run₀ : Run) (out : List ℕ) (run : Run) (at end : ℕ) : Type 0 where
-  pub ordered : at ≤ end
-  pub newline_at : end ≡ at + index_of newline (drop at text)
-  pub within : end ≤ length text
+pub adds : (run : Progress) (line b : List ℕ) (r : Called Written Station) (size : ℕ) (b₁ : List ℕ) → writing.fits_at answer_room run.filled (length b) ≡ true → answered_by r b₁ ≡ answer_rule run.station (next_number run.number) line run.filled b → end_of run.filled r ≤ length b₁ → size ≡ result_unwrap_or r.answer 0 → Adds run line b (record run { station = r.next; number = next_number run.number; filled = run.filled + size }) b₁
+unfolding answer_rule
+adds run line b r size b₁ room is within size_is =
+    subst (λ (n : ℕ). Adds run line b (record run { station = r.next; number = next_number run.number; filled = run.filled + n }) b₁) (sym size_is)
+    (put_by run line b r.next b₁ r.answer (is ∙ (simp room)) within)
+
+-- the lines of a text are answered up to an offset; what is left comes to what the rule gives
+pub record Answering (text out₀ : List ℕ) (run₀ : Progress) (out : List ℕ) (run : Progress) : Type 0 where
+  pub within : run.used ≤ length text
   pub room : run.filled ≤ length out
   pub same : length out ≡ length out₀
   pub behind : drop run.filled out ≡ drop run.filled out₀
-  pub so : before_share (take run.filled out) (share_rule run.station run.number (drop at text) (length out₀ - run.filled)) ≡ share_rule run₀.station run₀.number text (length out₀)
+  pub full : run.full ≡ false
+  pub so : before_share (take run.filled out) (share_rule run.station run.number (drop run.used text) (length out₀ - run.filled)) ≡ share_rule run₀.station run₀.number text (length out₀)
 
 -- the search goes up to the end of the text
-sliced : (text : List ℕ) (at end : ℕ) → end ≡ at + index_of newline (slice at (length text) text) → end ≡ at + index_of newline (drop at text)
+to_end : (text : List ℕ) (at : ℕ) → slice at (length text) text ≡ drop at text
 unfolding slice
-sliced text at end e = e ∙ ap (λ (l : List ℕ). at + index_of newline (drop at l)) (take-length text)
+to_end text at = ap (drop at) (take-length text)
 
-pub begun : (text out : List ℕ) (st : Station) (number end : ℕ) → end ≡ 0 + index_of newline (slice 0 (length text) text) → end ≤ length text → Answering text out (record { station = st; number = number; filled = 0 }) out (record { station = st; number = number; filled = 0 }) 0 end
-begun text out st number end e h =
-    record {
-      ordered = omega arith;
-      newline_at = sliced text 0 end e;
-      within = h;
-      room = omega arith;
-      same = refl;
-      behind = refl;
-      so = ap (share_rule st number text) all_room;
-    }
-  where
-    all_room : length out - 0 ≡ length out
-    all_room = omega arith
-
-module _ {text out₀ : List ℕ} {run₀ : Run} {out : List ℕ} {run : Run} {at end : ℕ} (k : Answering text out₀ run₀ out run at end) where
+module _ {text out₀ : List ℕ} {run₀ : Progress} {out : List ℕ} {run : Progress} (k : Answering text out₀ run₀ out run) where
   abbrev left : List ℕ
-  left = drop at text
+  left = drop run.used text
 
   abbrev room : ℕ
   room = length out₀ - run.filled
 
-  -- no newline is left
-  pub all_answered : length text ≤ end → share_of (record { station = run.station; number = run.number; used = at; filled = run.filled; full = false }) text out ≡ share_rule run₀.station run₀.number text (length out₀)
-  unfolding share_rule
-  all_answered past =
-      let index : length left ≤ index_of newline left = omega (arith, k.newline_at, past, length-drop at text) in
-      ap (λ (l : List ℕ). record { text = l; station = run.station; number = run.number; left = left; full = false }) (sym (append-nil (take run.filled out)))
-      ∙ ap (before_share (take run.filled out)) (sym (no_line run.station run.number [] left room index))
+  abbrev next : Option ℕ
+  next = found_in newline run.used (length text) text
+
+  -- what is answered, where nothing more is
+  answered_so_far : (full : Bool) → share_rule run.station run.number left room ≡ share_none run.station run.number left full → record { text = take run.filled out; station = run.station; number = run.number; left = left; full = full } ≡ share_rule run₀.station run₀.number text (length out₀)
+  answered_so_far full none =
+      ap (λ (l : List ℕ). record { text = l; station = run.station; number = run.number; left = left; full = full }) (sym (append-nil (take run.filled out)))
+      ∙ ap (before_share (take run.filled out)) (sym none)
       ∙ k.so
 
-  module _ (here : end < length text) where
+  -- no newline is left
+  pub all_answered : None ≡ next → share_of run text out ≡ share_rule run₀.station run₀.number text (length out₀)
+  unfolding share_rule
+  all_answered e =
+      let index : length left ≤ index_of newline left = subst (λ (l : List ℕ). length l ≤ index_of newline l) (to_end text run.used) (not_found newline run.used (length text) text e) in
+      ap (λ (t : Bool). record { text = take run.filled out; station = run.station; number = run.number; left = left; full = t }) k.full
+      ∙ answered_so_far false (no_line run.station run.number [] left room index)
+
+  module _ {end : ℕ} (here : Some end ≡ next) where
+    found_here : Found newline run.used (length text) text end
+    found_here = found newline run.used (length text) text here
+
+    newline_at : end ≡ run.used + index_of newline left
+    newline_at = subst (λ (l : List ℕ). end ≡ run.used + index_of newline l) (to_end text run.used) found_here.so
+
     whole : index_of newline left < length left
-    whole = omega (arith, k.newline_at, here, length-drop at text)
+    whole = subst (λ (l : List ℕ). index_of newline l < length l) (to_end text run.used) found_here.within
+
+    pub ordered : run.used ≤ end
+    ordered = omega (arith, newline_at)
+
+    pub inside : end < length text
+    inside = found_within newline run.used (length text) text (omega arith) found_here
 
     abbrev line : List ℕ
     line = take (index_of newline left) left
@@ -150,43 +148,41 @@ module _ {text out₀ : List ℕ} {run₀ : Run} {out : List ℕ} {run : Run} {a
     by_line = first_line run.station run.number [] left room whole
 
     -- there is no room for another answer
-    pub stopped : length out - run.filled < answer_room → share_of (record { station = run.station; number = run.number; used = at; filled = run.filled; full = true }) text out ≡ share_rule run₀.station run₀.number text (length out₀)
+    pub stopped : length out - run.filled < answer_room → share_of (record run { full = true }) text out ≡ share_rule run₀.station run₀.number text (length out₀)
     stopped little =
         let test : leb answer_room room ≡ false = lt-leb answer_room room (omega (arith, little, k.same)) in
-        ap (λ (l : List ℕ). record { text = l; station = run.station; number = run.number; left = left; full = true }) (sym (append-nil (take run.filled out)))
-        ∙ ap (before_share (take run.filled out)) (sym (by_line ∙ (simp test)))
-        ∙ k.so
-
-    pub has_room : answer_room ≤ length out - run.filled → writing.fits_at answer_room run.filled (length out) ≡ true
-    has_room h = le-leb (run.filled + answer_room) (length out) (omega (arith, h, k.room))
+        answered_so_far true (by_line ∙ (simp test))
 
     -- the line is answered
-    module _ (much : answer_room ≤ length out - run.filled) (r : Run) {out₁ : List ℕ} (a : Adds run (take (end - at) (drop at text)) out r out₁) (stays : length out ≡ length out₁) where
+    module _ (much : answer_room ≤ length out - run.filled) (r : Progress) {out₁ : List ℕ} (a : Adds run (take (end - run.used) left) out r out₁) (stays : length out ≡ length out₁) where
       abbrev given : LineAnswer
       given = answer_to run.station run.number line
 
-      same_line : take (end - at) (drop at text) ≡ line
-      same_line =
-          let e : end - at ≡ index_of newline left = omega (arith, k.newline_at) in
-          ap (λ (n : ℕ). take n left) e
-
       adds_line : Adds run line out r out₁
-      adds_line = subst (λ (l : List ℕ). Adds run l out r out₁) same_line a
+      adds_line =
+          let e : end - run.used ≡ index_of newline left = omega (arith, newline_at) in
+          subst (λ (n : ℕ). Adds run (take n left) out r out₁) e a
 
       front : length (take run.filled out) ≡ run.filled
       front = length-take-le run.filled out k.room
 
+      put_is : out₁ ≡ (take run.filled out ++ given.text) ++ drop (run.filled + length given.text) out
+      put_is =
+          adds_line.text
+          ∙ sym (append_assoc (take run.filled out) given.text (drop (run.filled + length given.text) out))
+
+      filled_is : r.filled ≡ length (take run.filled out ++ given.text)
+      filled_is = omega (arith, adds_line.filled, length-append (take run.filled out) given.text, front)
+
       text_put : take r.filled out₁ ≡ take run.filled out ++ given.text
       text_put =
-          ap (λ (n : ℕ). take n out₁) adds_line.filled
-          ∙ ap (take (run.filled + length given.text)) (adds_line.text ∙ sym (append_assoc (take run.filled out) given.text (drop (run.filled + length given.text) out)))
-          ∙ take_at (take run.filled out ++ given.text) (drop (run.filled + length given.text) out) (run.filled + length given.text) (length-append (take run.filled out) given.text ∙ ap (λ (n : ℕ). n + length given.text) front)
+          ap (take r.filled) put_is
+          ∙ take_at (take run.filled out ++ given.text) (drop (run.filled + length given.text) out) r.filled (sym filled_is)
 
       rest_kept : drop r.filled out₁ ≡ drop r.filled out₀
       rest_kept =
-          ap (λ (n : ℕ). drop n out₁) adds_line.filled
-          ∙ ap (drop (run.filled + length given.text)) (adds_line.text ∙ sym (append_assoc (take run.filled out) given.text (drop (run.filled + length given.text) out)))
-          ∙ drop_at (take run.filled out ++ given.text) (drop (run.filled + length given.text) out) (run.filled + length given.text) (length-append (take run.filled out) given.text ∙ ap (λ (n : ℕ). n + length given.text) front)
+          ap (drop r.filled) put_is
+          ∙ drop_at (take run.filled out ++ given.text) (drop (run.filled + length given.text) out) r.filled (sym filled_is)
           ∙ sym (drop-drop (length given.text) run.filled out)
           ∙ ap (drop (length given.text)) k.behind
           ∙ drop-drop (length given.text) run.filled out₀
@@ -194,33 +190,30 @@ module _ {text out₀ : List ℕ} {run₀ : Run} {out : List ℕ} {run : Run} {a
 
       rest_text : drop (suc (index_of newline left)) left ≡ drop (end + 1) text
       rest_text =
-          let e : at + suc (index_of newline left) ≡ end + 1 = omega (arith, k.newline_at) in
-          drop-drop (suc (index_of newline left)) at text ∙ ap (λ (n : ℕ). drop n text) e
-
-      rest_room_law : room - length given.text ≡ length out₀ - r.filled
-      rest_room_law = omega (arith, adds_line.filled)
+          let e : run.used + suc (index_of newline left) ≡ end + 1 = omega (arith, newline_at) in
+          drop-drop (suc (index_of newline left)) run.used text ∙ ap (λ (n : ℕ). drop n text) e
 
       one_more : before_share (take r.filled out₁) (share_rule r.station r.number (drop (end + 1) text) (length out₀ - r.filled)) ≡ before_share (take run.filled out) (share_rule run.station run.number left room)
       unfolding share_rule
       one_more =
           let test : leb answer_room room ≡ true = le-leb answer_room room (omega (arith, much, k.same)) in
+          let rest_room : room - length given.text ≡ length out₀ - r.filled = omega (arith, adds_line.filled) in
           let next = share_after given.station (next_number run.number) [] (drop (suc (index_of newline left)) left) (room - length given.text) in
           ap (λ (l : List ℕ). before_share l (share_after r.station r.number [] (drop (end + 1) text) (length out₀ - r.filled))) text_put
           ∙ ap (λ (st : Station). before_share (take run.filled out ++ given.text) (share_after st r.number [] (drop (end + 1) text) (length out₀ - r.filled))) adds_line.station
           ∙ ap (λ (n : ℕ). before_share (take run.filled out ++ given.text) (share_after given.station n [] (drop (end + 1) text) (length out₀ - r.filled))) adds_line.number
           ∙ ap (λ (l : List ℕ). before_share (take run.filled out ++ given.text) (share_after given.station (next_number run.number) [] l (length out₀ - r.filled))) (sym rest_text)
-          ∙ ap (λ (n : ℕ). before_share (take run.filled out ++ given.text) (share_after given.station (next_number run.number) [] (drop (suc (index_of newline left)) left) n)) (sym rest_room_law)
+          ∙ ap (λ (n : ℕ). before_share (take run.filled out ++ given.text) (share_after given.station (next_number run.number) [] (drop (suc (index_of newline left)) left) n)) (sym rest_room)
           ∙ ap (λ (l : List ℕ). record { text = l; station = next.station; number = next.number; left = next.left; full = next.full }) (append_assoc (take run.filled out) given.text next.text)
           ∙ ap (before_share (take run.filled out)) (sym (by_line ∙ (simp test)))
 
-      pub answered_more : {found : ℕ} → found ≡ end + 1 + index_of newline (slice (end + 1) (length text) text) → found ≤ length text → Answering text out₀ run₀ out₁ r (end + 1) found
-      answered_more {found} newline_found h =
+      pub answered_more : Answering text out₀ run₀ out₁ (record r { used = end + 1 })
+      answered_more =
           record {
-            ordered = omega (arith, newline_found);
-            newline_at = sliced text (end + 1) found newline_found;
-            within = h;
+            within = omega (arith, inside);
             room = a.within;
             same = sym stays ∙ k.same;
             behind = rest_kept;
+            full = a.full ∙ k.full;
             so = one_more ∙ k.so;
           }

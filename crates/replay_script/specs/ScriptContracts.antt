@@ -2,7 +2,6 @@
 use Rattle.std.specs.Prelude.{◌≡◌, ℕ, ◌+◌, ◌≤◌, List, length, take, drop}
 use Rattle.frame.specs.Writing.{pasted}
 use Rattle.replay_script.specs.declared.Progress.{Progress}
-use Rattle.replay_script.specs.declared.Run.{Run}
 use Rattle.replay_script.specs.ReplayRuns.{next_number, answer_to}
 use Rattle.replay_script.specs.Shares.{Share}
 
@@ -18,9 +17,10 @@ share_of r text output =
     }
 
 -- the answer to a line is put behind what the output buffer holds
-pub record Adds (run : Run) (line b : List ℕ) (r : Run) (b₁ : List ℕ) : Type 0 where
+pub record Adds (run : Progress) (line b : List ℕ) (r : Progress) (b₁ : List ℕ) : Type 0 where
   pub text : b₁ ≡ pasted (answer_to run.station run.number line).text run.filled b
   pub filled : r.filled ≡ run.filled + length (answer_to run.station run.number line).text
   pub station : r.station ≡ (answer_to run.station run.number line).station
   pub number : r.number ≡ next_number run.number
+  pub full : r.full ≡ run.full
   pub within : r.filled ≤ length b₁

@@ -1,17 +1,16 @@
 // A byte searched for in a part of a text.
-ghost use Rattle.std.specs.Prelude.{◌≡◌, ◌+◌};
-ghost use Rattle.replay_script.specs.Finding.{index_of, slice};
+ghost use Rattle.std.specs.Prelude.{◌≡◌};
+ghost use Rattle.replay_script.specs.Finding.{found_in};
 
-// The first offset from `start` up to `end` that holds this byte; where none does, the end of that part.
-pub fn find(text: &[u8], start: usize, end: usize, byte: u8) -> usize
-    ensures found { result ≡ start + index_of byte (slice start end text.now) }
+// The first offset from `start` up to `end` that holds this byte.
+#[tactic(auto, using(crate::proofs::FindingLaws::nothing_found, crate::proofs::FindingLaws::first_found, crate::proofs::FindingLaws::none_found))]
+pub fn find(text: &[u8], start: usize, end: usize, byte: u8) -> Option<usize>
+    ensures found { result ≡ found_in byte start end text.now }
 {
     let end = end.min(text.len());
     if end <= start {
-        return start;
+        return None;
     }
-    match memchr::memchr(byte, &text[start..end]) {
-        Some(place) => start + place,
-        None => end,
-    }
+    let place = memchr::memchr(byte, &text[start..end])?;
+    Some(start + place)
 }

@@ -4,7 +4,7 @@ use Rattle.replay_script.proofs.ShareLaws.{Answering}
 use Rattle.replay_script.proofs.answer_lines.Given as goal
 
 abbrev pub invariant-loop-end : goal.invariant-loop-end
-invariant-loop-end l = Answering l.text l.initial.output l.initial.run l.output l.run l.at l.end
+invariant-loop-end l = Answering l.text l.initial.output l.initial.run l.output l.run
 
 abbrev pub decreases-loop-end : goal.decreases-loop-end
-decreases-loop-end l = length l.text - l.end
+decreases-loop-end l = length l.text - l.run.used

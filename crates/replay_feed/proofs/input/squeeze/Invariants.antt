@@ -1,10 +1,6 @@
 -- `replay_feed::input::squeeze` meets its contract.
-use Prim.Native.Nat.{◌-◌}
 use Rattle.replay_feed.proofs.SqueezeLaws.{Squeezing}
 use Rattle.replay_feed.proofs.input.squeeze.Given as goal
 
 abbrev pub invariant-loop-i : goal.invariant-loop-i
 invariant-loop-i l = Squeezing l.initial.buffer l.buffer l.size l.kept l.i l.after
-
-abbrev pub decreases-loop-i : goal.decreases-loop-i
-decreases-loop-i l = l.size - l.i
