@@ -1,5 +1,5 @@
 // What is read of a script, answered as far as there is room for the answers; and what is held between two turns.
-// That a state fits the buffer beside it stays a clause of each function here: `turn` answers for every `State`, so that no ghost field of it can say so.
+// That a state fits the buffers beside it stays a clause of each function here: `turn` answers for every `State`, so that no ghost field of it can say so.
 ghost use Rattle.std.specs.Prelude.{◌+◌, ◌≤◌, ◌<◌, ◌≡◌, true, length, drop};
 ghost use Rattle.replay_script.specs.Shares.{share_rule};
 ghost use Rattle.replay_feed.specs.LongLines.{longest};
@@ -10,7 +10,7 @@ use crate::{State, input};
 use replay_script::finding;
 use text::NEWLINE;
 
-// Answers the whole lines that are held while there is room for the answers. Where others wait for room another turn is to follow, and else they are the whole script.
+// Answers the whole lines that are held while there is room for the answers. Where others wait for room another turn is to follow; else the script is whole, unless more of it is read.
 #[tactic(auto, using(crate::proofs::FeedLaws::lines_answered))]
 fn answer(state: State, buffer: &[u8], output: &mut [u8]) -> State
     requires ordered { state.start ≤ state.size }

@@ -12,7 +12,7 @@ use text::NEWLINE;
 
 pub mod finding;
 
-// How far a text was answered: the station and the number of lines so far, how much of the text was used and of the output buffer filled, and whether a whole line is left for want of room. The two buffers are the caller's, for one call: so `used` and `filled` are offsets, and no slices.
+// How far a text was answered: the station and the number of lines so far, how much of the text was used and of the output buffer filled, and whether a whole line is left for want of room. `used` and `filled` are offsets, and no slices, since the two buffers are the caller's; and `full` stays a flag, since the others say the same with it and without it.
 #[derive(Clone, Copy)]
 pub struct Progress {
     pub station: Station,
