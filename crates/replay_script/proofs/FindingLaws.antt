@@ -1,5 +1,6 @@
 -- Laws of the first place of a byte: it is the one before which the byte is not, and a text without it has none.
 use Rattle.std.specs.Prelude.{ℕ, zero, suc, ◌+◌, ◌-◌, ◌<◌, ◌≤◌, ◌≡◌, refl, Bool, true, false, cond, None, Some, List, [], ◌∷◌, ◌==◌, ltb, length, get_or, take, drop, min}
+use Rattle.std.specs.Option.{unwrap_or}
 use Rattle.std.proofs.Common.{sym, ◌∙◌, ap, not-suc-le-zero, arith, length-drop, length-take, length-take-le, take_all, drop_of_length-le, ltb-true, ltb-false, lt-ltb, le-ltb}
 use Rattle.std.proofs.Math.Decide.{dec_le}
 use Rattle.std.proofs.lemmas.List.{drop-take}
@@ -75,6 +76,17 @@ module _ (byte start end : ℕ) (text : List ℕ) where
 
   pub found_within : {place : ℕ} → end ≤ length text → Found byte start end text place → place < end
   found_within h f = omega (arith, f.so, f.within, part_size start end text h)
+
+  -- the first place, or the end of the part where it has none
+  or_end_by : (t : Bool) → ltb (index_of byte part) (length part) ≡ t → unwrap_or (cond t (Some (start + index_of byte part)) None) (start + length part) ≡ start + index_of byte part
+  or_end_by true e = refl
+  or_end_by false e =
+      let same : length part ≡ index_of byte part = omega (arith, ltb-false (index_of byte part) (length part) e, index_within byte part) in
+      ap (λ (n : ℕ). start + n) same
+
+  pub found_or_end : unwrap_or (found_in byte start end text) (start + length part) ≡ start + index_of byte part
+  unfolding found_in
+  found_or_end = or_end_by (ltb (index_of byte part) (length part)) refl
 
   some_is : index_of byte part < length part → Some (start + index_of byte part) ≡ found_in byte start end text
   unfolding found_in
