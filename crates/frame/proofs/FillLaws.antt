@@ -13,7 +13,7 @@ pub length_headed : (part : List ℕ) (a b c d : ℕ) → length (headed part a 
 length_headed part a b c d = simp length-set
 
 -- the head's four stores on a part that has room for them
-behind : (part : List ℕ) (a b c d : ℕ) → 4 ≤ length part → headed part a b c d ≡ a ∷ b ∷ c ∷ d ∷ drop 4 part
+pub behind : (part : List ℕ) (a b c d : ℕ) → 4 ≤ length part → headed part a b c d ≡ a ∷ b ∷ c ∷ d ∷ drop 4 part
 behind [] a b c d h = absurd (omega arith)
 behind (x ∷ []) a b c d h = absurd (omega arith)
 behind (x ∷ y ∷ []) a b c d h = absurd (omega arith)

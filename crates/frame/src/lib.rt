@@ -111,7 +111,9 @@ fn fill(part: &mut [u8], head: Head, rest: &[u8])
     part[1] = head.device.0;
     part[2] = head.byte2;
     part[3] = head.byte3;
-    part[HEAD..HEAD + rest.len()].copy_from_slice(rest);
+    for (i, byte) in rest.iter().enumerate() {
+        part[HEAD + i] = *byte;
+    }
 }
 
 // Writes the frame at its offset, or answers 10.

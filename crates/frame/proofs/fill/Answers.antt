@@ -1,6 +1,9 @@
--- `frame::fill` meets its contract: four stores, and the copy of the rest. One proof serves every length.
-use Rattle.frame.proofs.FillLaws.{copied}
+-- `frame::fill` meets its contract. The loop's state is `Filling`: of the rest, the first i bytes follow the head. One proof serves every length.
+use Rattle.frame.proofs.FillingLaws.{more, finished}
 use Rattle.frame.proofs.fill.Goals as goal
 
+pub loop-i-preserved : goal.loop-i-preserved
+loop-i-preserved c = more c.loop-i.invariant c.loop-i-test.true
+
 pub returns : goal.returns
-returns c = copied _ _ _ _ _ _ _ c.requires c.copy_from_slice.ensures.after
+returns c = finished _ _ _ _ _ _ _ _ c.loop-i.invariant c.loop-i-test.false
