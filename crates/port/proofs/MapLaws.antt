@@ -44,6 +44,17 @@ module _ {A : Type 0} (g : A → A) where
         so = ap (λ (l : List A). set l i v) m.so ∙ ap (set (map_first i xs) i) e ∙ stored i xs d h ∙ ap (λ (n : ℕ). map_first n xs) (sym (add-one i));
       }
 
+  front_unlike : (i k : ℕ) (xs : List A) (d : A) → i ≤ k → get_or (map_first i xs) k d ≡ get_or xs k d
+  unfolding map_first
+  front_unlike zero k xs d h = refl
+  front_unlike (suc i) k [] d h = refl
+  front_unlike (suc i) zero (x ∷ xs) d h = absurd (not-suc-le-zero h)
+  front_unlike (suc i) (suc k) (x ∷ xs) d h = front_unlike i k xs d (le_of_suc-le-suc h)
+
+  -- what comes next is still as it was
+  pub map_next : {xs ys : List A} {i : ℕ} (d : A) → Mapped xs ys i → get_or ys i d ≡ get_or xs i d
+  map_next {xs} {ys} {i} d m = ap (λ (l : List A). get_or l i d) m.so ∙ front_unlike i i xs d (omega arith)
+
   pub map_done : {xs ys : List A} {i : ℕ} → Mapped xs ys i → length xs ≤ i → ys ≡ map g xs
   map_done {xs} {ys} {i} m h = m.so ∙ whole i xs h
 

@@ -1,5 +1,5 @@
 -- Document 02, Ask 4, worked: of two equal places the lower is given; and what a search gives that keeps the last match, or stops one place short, is not what is asked for.
-use Rattle.std.specs.Prelude.{ℕ, zero, suc, ◌≡◌, Bool, true, false, cond, ◌&&◌, List, [], ◌∷◌, length, eqb, Option, Some}
+use Rattle.std.specs.Prelude.{ℕ, zero, suc, ◌≡◌, Bool, true, false, cond, ◌&&◌, List, [], ◌∷◌, length, eqb, Option, Some, None}
 use Rattle.std.proofs.Common.{le_of_suc-le-suc, not-suc-le-zero, arith, lit<}
 use Rattle.port.specs.declared.Request.{Request}
 use Rattle.port.specs.Searching.{NoneBelow, Lowest, Searches, Finds}
@@ -41,13 +41,16 @@ module _ (test : Request → Bool) (hit other : Request) (passes : test hit ≡ 
       below (suc (suc (suc k))) h = absurd (not-suc-le-zero (le_of_suc-le-suc (le_of_suc-le-suc (le_of_suc-le-suc h))))
 
   -- none matches; and there are no places
+  none_of_two : NoneBelow test (other ∷ other ∷ []) 2
+  none_of_two zero h = fails
+  none_of_two (suc zero) h = fails
+  none_of_two (suc (suc k)) h = absurd (not-suc-le-zero (le_of_suc-le-suc (le_of_suc-le-suc h)))
+
   pub no_place : (found : ℕ) → Searches test (other ∷ other ∷ []) found → found ≡ 2
-  no_place found s = s.none.1 none
-    where
-      none : NoneBelow test (other ∷ other ∷ []) 2
-      none zero h = fails
-      none (suc zero) h = fails
-      none (suc (suc k)) h = absurd (not-suc-le-zero (le_of_suc-le-suc (le_of_suc-le-suc h)))
+  no_place found s = s.none.1 none_of_two
+
+  pub none_found : (found : Option ℕ) → Finds test (other ∷ other ∷ []) found → found ≡ None
+  none_found found s = s.none.1 none_of_two
 
   pub no_places : (found : ℕ) → Searches test [] found → found ≡ 0
   no_places found s = s.none.1 (λ k h. absurd (not-suc-le-zero h))

@@ -14,7 +14,7 @@ use Rattle.report.proofs.ChoicesLaws.{by_case}
 use Rattle.port.specs.declared.Request.{Request}
 use Rattle.port.specs.Records.{request_in}
 use Rattle.port.specs.Places.{first_at}
-use Rattle.port.specs.Searching.{NoneBelow, Lowest, Searches, SearchesExactly, Finds, place_or}
+use Rattle.port.specs.Searching.{NoneBelow, Lowest, Searches, SearchesExactly, Finds, FindsExactly, place_or}
 
 -- what is read of a place does not depend on what is read past the last
 in_place : (places : List Request) (i : ℕ) (d : Request) → i < length places → request_in places i ≡ get_or places i d
@@ -193,3 +193,16 @@ searches_of test places None f =
       lowest = λ place h. (λ e. absurd (omega (arith, e, h)), λ l. absurd (none-some _ ((f.lowest place).1 (h, l))));
       none = (λ e. f.none.0 refl, λ n. refl);
     }
+
+-- nothing else is what document 02 says of what is found
+pub finds_exactly : (test : Request → Bool) (places : List Request) (found : Option ℕ) → FindsExactly test places found
+finds_exactly test places found =
+    let it = finds test places {found = position test places} refl in
+    record {
+      words = (finds test places, only found it);
+      number = (searches_exactly test places (place_or places (position test places))).1 (searches_of test places (position test places) it);
+    }
+  where
+    only : (found : Option ℕ) → Finds test places (position test places) → Finds test places found → found ≡ position test places
+    only (Some place) it f = sym ((it.lowest place).1 ((f.lowest place).0 refl))
+    only None it f = sym (it.none.1 (f.none.0 refl))

@@ -1,5 +1,5 @@
 -- Document 02, Ask 4, in its words: for any places, two equal ones too, a search gives the lowest that matches, or none exactly when none does.
-use Rattle.std.specs.Prelude.{ℕ, ◌<◌, ◌≡◌, ◌↔◌, Bool, true, false, List, length, Option, Some, None}
+use Rattle.std.specs.Prelude.{ℕ, ◌<◌, ◌≡◌, ◌↔◌, Bool, true, false, List, length, Option, Some, None, position}
 use Rattle.port.specs.declared.Request.{Request}
 use Rattle.port.specs.Records.{request_in}
 use Rattle.port.specs.Places.{first_at}
@@ -31,3 +31,8 @@ pub record Finds (test : Request → Bool) (places : List Request) (found : Opti
 abbrev pub place_or : List Request → Option ℕ → ℕ
 place_or places (Some place) = place
 place_or places None = length places
+
+-- so exactly what the library's search finds, and as a number the place that the rules' own search gives
+pub record FindsExactly (test : Request → Bool) (places : List Request) (found : Option ℕ) : Type 0 where
+  pub words : (found ≡ position test places) ↔ Finds test places found
+  pub number : place_or places (position test places) ≡ first_at test places

@@ -1,9 +1,9 @@
 // What one port holds, and its places for waiting requests.
 #![tactic(auto)]
 
-ghost use Rattle.std.specs.Prelude.{◌≡◌, set, position};
+ghost use Rattle.std.specs.Prelude.{◌≡◌, ◌≤◌, set, position};
 ghost use Rattle.port.specs.Records.{fresh_port, made_fresh, empty_place, request_in, feature_at, with_version, with_battery, with_serial, with_features, with_places, with_link, with_pairing};
-ghost use Rattle.port.specs.Places.{matches, is_empty, sum_over, count_waiting};
+ghost use Rattle.port.specs.Places.{matches, is_empty, count_waiting};
 ghost use Rattle.port.specs.Searching.{Finds};
 ghost use Rattle.port.specs.Ticks.{after_tick, one_if_ending, tick_rule};
 ghost use Rattle.port.specs.PortContracts.{ticked_of};
@@ -180,21 +180,26 @@ fn lowered(request: Request) -> Request
     }
 }
 
-// The number of requests that one tick ends.
-#[tactic(auto, using(crate::proofs::SumLaws::ending))]
-fn count_ending(places: [Request; PLACES]) -> u8
-    ensures { result ≡ sum_over one_if_ending places }
+// One where a tick ends the request, and else none.
+fn one_if_ending(request: Request) -> u8
+    ensures counted { result ≡ one_if_ending request }
+    ensures one { result ≤ 1 }
 {
-    places.iter().filter(|request| request.ticks == 1).count() as u8
+    u8::from(request.ticks == 1)
 }
 
-// That number, and the places after it.
-pub fn tick(places: [Request; PLACES]) -> Called<u8, [Request; PLACES]>
+// The number of requests that one tick ends, and the places after it. One loop does both: counting with `filter` and lowering with `map` take three times the instructions (docs/DESIGN-PASS.md).
+pub fn tick(mut places: [Request; PLACES]) -> Called<u8, [Request; PLACES]>
     ensures ticked { ticked_of result ≡ tick_rule places }
 {
+    let mut ended = 0;
+    for request in places.iter_mut() {
+        ended += one_if_ending(*request);
+        *request = lowered(*request);
+    }
     Called {
-        answer: count_ending(places),
-        next: places.map(lowered),
+        answer: ended,
+        next: places,
     }
 }
 

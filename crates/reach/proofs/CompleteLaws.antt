@@ -1,6 +1,6 @@
 -- Document 01, gathered: the proof.
 use Rattle.std.proofs.Common.{subst}
-use Rattle.port.proofs.SearchingLaws.{searches_exactly}
+use Rattle.port.proofs.SearchingLaws.{searches_exactly, finds_exactly}
 use Rattle.sequence.specs.Readings.{ReadFits}
 use Rattle.sequence.proofs.ReadingsLaws.{read_fits, register_range}
 use Rattle.sequence.proofs.SentenceLaws.{by_answer, refused_keeps}
@@ -21,6 +21,7 @@ complete =
       request = request_answers;
       cancel = cancel_answers;
       searches = searches_exactly;
+      finds = finds_exactly;
       lowest = lowest_places;
       register = λ bytes r e. register_range r.byte2 (subst (ReadFits bytes) e (read_fits bytes)).1.0;
       refused = refused_keeps;

@@ -1,11 +1,11 @@
 -- Document 01, with document 02, Asks 1 to 5, gathered, of the rules: what holds on every station that calls reach; that the cases of a call are complete and exclude each other; when each refusal is given; what a search gives, and to which place a call comes by it; what a call ends and changes; and that a refused call changes nothing.
-use Rattle.std.specs.Prelude.{ℕ, ◌≤◌, ◌≡◌, Bool, true, false, List}
+use Rattle.std.specs.Prelude.{ℕ, ◌≤◌, ◌≡◌, Bool, true, false, List, Option}
 use Rattle.report.specs.Ports.{is_port}
 use Rattle.report.specs.Reading as reading
 use Rattle.report.specs.Reading.{Report, read_rule}
 use Rattle.port.specs.declared.Port.{Port}
 use Rattle.port.specs.declared.Request.{Request}
-use Rattle.port.specs.Searching.{SearchesExactly}
+use Rattle.port.specs.Searching.{SearchesExactly, FindsExactly}
 use Rattle.matching.specs.declared.Message.{Message}
 use Rattle.hidpp.specs.HidppTaking.{is_error}
 use Rattle.station.specs.declared.Station.{Station}
@@ -37,6 +37,8 @@ pub record Complete : Type 0 where
   pub cancel : (p : Port) → Placed p → (byte2 byte3 : ℕ) → CancelAnswers p byte2 byte3
   -- on any places, two equal ones too: a search gives the lowest that matches, or none exactly when none does; and each of these comes to that place
   pub searches : (test : Request → Bool) (places : List Request) (found : ℕ) → SearchesExactly test places found
+  -- the same of what the program's searches find, which is a place or nothing
+  pub finds : (test : Request → Bool) (places : List Request) (found : Option ℕ) → FindsExactly test places found
   pub lowest : (p : Port) → Placed p → LowestPlaces p
   -- what is read: point 3's byte 2 of 0x80 or above is 0x80 to 0x83
   pub register : (bytes : List ℕ) (r : Report) → read_rule bytes ≡ reading.hidpp r → is_error r.byte2 ≡ false → r.byte2 ≤ 0xFF → 0x80 ≤ r.byte2 → r.byte2 ≤ 0x83

@@ -53,22 +53,6 @@ fn with_drops(answer: Result<Taken, Refusal>, dropped: u8) -> Result<Taken, Refu
     }
 }
 
-// The number of requests that a tick ends on one port.
-#[tactic(auto, unfolding(crate::specs::StationCalls::ended_on))]
-fn ended_on(port: Port) -> u8
-    ensures { result ≡ ended_on port }
-{
-    port::tick(port.places).answer
-}
-
-// One port after a tick.
-#[tactic(auto, unfolding(crate::specs::StationCalls::ticked_port))]
-fn ticked(port: Port) -> Port
-    ensures { result ≡ ticked_port port }
-{
-    port::with_places(port, port::tick(port.places).next)
-}
-
 impl Station {
     #[tactic(auto, unfolding(crate::specs::Stations::fresh_station))]
     pub fn new() -> Station
@@ -202,14 +186,19 @@ impl Station {
     }
 
     // Lowers every waiting count by one, and answers the number of requests that it ended on each port. It is never refused.
-    pub fn tick(self) -> Called<[u8; port::PORTS], Station>
+    pub fn tick(mut self) -> Called<[u8; port::PORTS], Station>
         ensures outcome { TickPromise self result }
     {
+        let mut ended = [0; port::PORTS];
+        for i in 0..port::PORTS {
+            let ticked = port::tick(self.ports[i].places);
+            let places = ticked.next;
+            ended[i] = ticked.answer;
+            self.ports[i].places = places;
+        }
         Called {
-            answer: self.ports.map(ended_on),
-            next: Station {
-                ports: self.ports.map(ticked),
-            },
+            answer: ended,
+            next: self,
         }
     }
 

@@ -1,17 +1,22 @@
 -- `port::tick` meets its contract: each place is lowered, and those that end are counted.
-use Rattle.std.proofs.Common.{◌≡◌, ◌∙◌, ℕ, ◌<◌, sym, rules, arith, get_or, length, of_calls, ext_get_or}
-use Rattle.std.specs.Prelude.{map}
-use Rattle.std.proofs.lemmas.List.{length-map}
-use Rattle.std.proofs.Math.ListN.{get_or-map}
-use Rattle.port.specs.Records.{place_count, empty_place}
-use Rattle.port.specs.Ticks.{after_tick}
+use Rattle.std.proofs.Common.{◌∙◌, ap, arith}
+use Rattle.port.specs.Records.{empty_place}
+use Rattle.port.specs.Ticks.{after_tick, one_if_ending}
+use Rattle.port.proofs.SumLaws.{sum_begun, sum_more, sum_done}
+use Rattle.port.proofs.MapLaws.{map_begun, map_more, map_next, map_done}
 use Rattle.port.proofs.TicksLaws.{ticked}
 use Rattle.port.proofs.tick.Goals as goal
 
+pub loop-request-init : goal.loop-request-init
+loop-request-init c = (map_begun after_tick _, sum_begun one_if_ending _)
+
+pub loop-request-preserved : goal.loop-request-preserved
+unfolding empty_place
+loop-request-preserved c =
+    let kept = map_next after_tick empty_place c.loop-request.invariant.0 in (
+      map_more after_tick empty_place _ c.loop-request.invariant.0 (omega arith) (c.lowered.ensures ∙ ap after_tick kept),
+      sum_more one_if_ending empty_place _ c.loop-request.invariant.1 (omega arith) (c.one_if_ending-ended.ensures.counted ∙ ap one_if_ending kept) c.one_if_ending-ended.ensures.one,
+    )
+
 pub returns : goal.returns
-returns c =
-    let each : (i : ℕ) → i < place_count → get_or c.map.result i (after_tick empty_place) ≡ after_tick (get_or c.args.places i empty_place) = λ i h. let called = c.map.ensures.items.at i empty_place (after_tick empty_place) h in search (rules, of_calls) in
-    let long : length c.map.result ≡ place_count = c.map.ensures.items.long in
-    let placed : length c.args.places ≡ place_count = omega arith in
-    let next : c.map.result ≡ map after_tick c.args.places = ext_get_or (after_tick empty_place) _ _ (long ∙ sym (length-map c.args.places after_tick ∙ placed)) (λ i h. each i (omega (arith, long)) ∙ sym (get_or-map after_tick c.args.places i empty_place)) in
-    record { ticked = ticked _ next c.count_ending.ensures }
+returns c = record { ticked = ticked _ (map_done after_tick c.loop-request.invariant.0 (omega arith)) (sum_done one_if_ending c.loop-request.invariant.1 (omega arith)) }
