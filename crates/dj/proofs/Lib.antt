@@ -1,3 +1,4 @@
 pub mod PaddingLaws
+pub mod PaddingPassedLaws
 pub mod DirtyLaws
 pub mod DjTakingLaws

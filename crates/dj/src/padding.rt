@@ -6,7 +6,10 @@ ghost use Rattle.dj.specs.Padding.{is_zero_from, is_clean_after};
 pub fn is_zero_from(bytes: &[u8], offset: usize) -> bool
     ensures zero { result ≡ is_zero_from bytes.now offset }
 {
-    bytes.iter().skip(offset).all(|byte| *byte == 0)
+    match bytes.get(offset..) {
+        Some(rest) => rest.iter().all(|byte| *byte == 0),
+        None => true,
+    }
 }
 
 // Whether nothing but zeros is behind a payload of this length.
