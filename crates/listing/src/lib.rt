@@ -8,7 +8,7 @@ ghost use Rattle.frame.specs.FrameContracts.{written_outcome};
 
 use port::Port;
 use report::Refusal;
-use text::Out;
+use text::{Out, PutLine};
 
 // The header, and the longest line of a device: the fields, and the byte after each.
 const FIELDS: usize = 7;
@@ -47,6 +47,19 @@ fn put_line(out: &mut Out, number: u8, port: &Port)
     out.byte(text::NEWLINE)
 }
 
+// The line of each device that is listed.
+struct DeviceLine;
+
+impl PutLine for DeviceLine {
+    ghost most = { λ _. line_most };
+
+    ghost line = { λ _. device_line };
+
+    fn put(&self, out: &mut Out, number: u8, port: &Port) {
+        put_line(out, number, port)
+    }
+}
+
 // Writes the listing of the paired devices among the ports: refusal 10.
 pub fn write_listing(
     ports: [Port; port::PORTS],
@@ -59,7 +72,7 @@ pub fn write_listing(
         &mut [0; ROOM],
         b"port\twpid\treports\tlink\tversion\tbattery\twaiting\n",
         &ports,
-        put_line,
+        &DeviceLine,
         buffer,
         offset,
     )

@@ -9,7 +9,7 @@ ghost use Rattle.replay_dump.specs.DumpLines.{feature_text, feature_most, reques
 use port::{Port, Request};
 use report::FeatureIndex;
 use station::Station;
-use text::Out;
+use text::{Out, PutElement};
 
 // The longest text of a feature and of a place, each with the comma before it.
 const FEATURE: usize = 1 + text::BYTE_MOST;
@@ -42,6 +42,19 @@ fn put_feature(out: &mut Out, position: usize, feature: &FeatureIndex)
     out.small(feature.0)
 }
 
+// The index of each known feature.
+struct Features;
+
+impl PutElement<FeatureIndex> for Features {
+    ghost most = { λ _. feature_most };
+
+    ghost text = { λ _. parted feature_text };
+
+    fn put(&self, out: &mut Out, position: usize, feature: &FeatureIndex) {
+        put_feature(out, position, feature)
+    }
+}
+
 // Bytes 2 and 3, the first three parameters and the ticks left.
 fn put_request(out: &mut Out, request: &Request)
     ensures { Outputs request_most (request_text request.now) out.old out.new }
@@ -70,6 +83,19 @@ fn put_place(out: &mut Out, position: usize, request: &Request)
     }
 }
 
+// What each place holds.
+struct Places;
+
+impl PutElement<Request> for Places {
+    ghost most = { λ _. place_most };
+
+    ghost text = { λ _. parted place_text };
+
+    fn put(&self, out: &mut Out, position: usize, request: &Request) {
+        put_place(out, position, request)
+    }
+}
+
 // The line of the port at a position.
 fn put_port(out: &mut Out, position: usize, port: &Port)
     ensures { Outputs port_most (port_line (number_at position) port.now) out.old out.new }
@@ -88,25 +114,40 @@ fn put_port(out: &mut Out, position: usize, port: &Port)
     out.word(b" version=");
     out.version(port.version);
     out.word(b" features=");
-    out.each(&port.features, put_feature);
+    out.each(&port.features, &Features);
     out.word(b" battery=");
     out.battery(port.battery);
     out.word(b" places=");
-    out.each(&port.places, put_place);
+    out.each(&port.places, &Places);
     out.word(b" serial=");
     out.serial(port.serial);
     out.byte(b'\n')
 }
 
+// The line of each port.
+struct Ports;
+
+impl PutElement<Port> for Ports {
+    ghost most = { λ _. port_most };
+
+    ghost text = { λ _ position p. port_line (number_at position) p };
+
+    fn put(&self, out: &mut Out, position: usize, port: &Port) {
+        put_port(out, position, port)
+    }
+}
+
 fn put_ports(out: &mut Out, ports: &[Port; port::PORTS])
     ensures { Outputs dump_most (ports_text ports.now) out.old out.new }
 {
-    out.each(ports, put_port)
+    out.each(ports, &Ports)
 }
 
 // What every port of a station holds. Nothing where there is less room than the longest dump takes.
 pub fn put_dump(out: &mut Out, station: &Station)
     ensures put { OutputsWhole dump_most (dump_text station.now) out.old out.new }
 {
-    out.whole(DUMP, |out| put_ports(out, &station.ports))
+    if out.has_room(DUMP) {
+        put_ports(out, &station.ports)
+    }
 }

@@ -1,11 +1,11 @@
 // The lines of text that replay's answers become, except those of a taken report and of a dump, each put whole into a lent buffer, or not at all.
 #![tactic(auto)]
 
-ghost use Rattle.std.specs.Prelude.{◌≡◌, ◌≤◌, ◌^◌, IfSome, IfNone, length};
+ghost use Rattle.std.specs.Prelude.{◌≡◌, ◌≤◌, ◌^◌, ℕ, List, IfSome, IfNone, length};
 ghost use Rattle.mouse.specs.Movement.{moved};
 ghost use Rattle.mouse.specs.MouseContracts.{moved_of};
 ghost use Rattle.text.specs.Words.{decimal};
-ghost use Rattle.text.specs.Putting.{Outputs, OutputsWhole};
+ghost use Rattle.text.specs.Putting.{Outputs, OutputsWhole, PutsWith};
 ghost use Rattle.text.specs.Texts.{byte_most};
 ghost use Rattle.replay_fields.specs.AnswerFields.{byte_text, spaced, spaced_most, answer_most};
 ghost use Rattle.replay_render.specs.AnswerLines.{lent_most, outcome_text, outcome_most, written_text, written_most, cancelled_text, ended_text, restored_text, report_text, reading_text, moved_text, no_call_text};
@@ -18,7 +18,7 @@ ghost use Rattle.restore.specs.RestoreContracts.{restored_of};
 use mouse::Motion;
 use report::{DjReport, FeatureIndex, HidppReport, Reading, Refusal};
 use restore::NotRestored;
-use text::Out;
+use text::{Out, PutElement};
 
 // Room for the longest line, except a writer's.
 const ANSWER: usize = replay_fields::ANSWER;
@@ -28,6 +28,16 @@ const LENT_BYTE: usize = 1 + text::DIGITS_8 as usize;
 
 const WRITTEN: usize = 8 + text::NUMBER_MOST + 1 + 1;
 
+// What `put` puts, all of it or nothing: nothing where fewer than `most` bytes are left.
+fn whole<F: FnOnce(&mut Out)>(out: &mut Out, most: usize, put: F)
+    requires { F.IsAlwaysCallable put }
+    ensures whole { (text : List ℕ) → PutsWith (F.post put) most text → OutputsWhole most text out.old out.new }
+{
+    if out.has_room(most) {
+        put(out)
+    }
+}
+
 // A lent byte after a space.
 fn put_lent(out: &mut Out, position: usize, byte: &u8)
     ensures { Outputs lent_most (spaced byte_text position byte.now) out.old out.new }
@@ -36,13 +46,26 @@ fn put_lent(out: &mut Out, position: usize, byte: &u8)
     replay_fields::put_code(out, *byte)
 }
 
+// The bytes of a lent buffer.
+struct Lent;
+
+impl PutElement<u8> for Lent {
+    ghost most = { λ _. lent_most };
+
+    ghost text = { λ _. spaced byte_text };
+
+    fn put(&self, out: &mut Out, position: usize, byte: &u8) {
+        put_lent(out, position, byte)
+    }
+}
+
 fn put_outcome(out: &mut Out, word: &[u8], n: usize, lent: &[u8])
     ensures { Outputs (outcome_most word.now (length lent.now)) (outcome_text word.now n lent.now) out.old out.new }
 {
     out.word(word);
     out.decimal(n);
     out.byte(b':');
-    out.each(lent, put_lent);
+    out.each(lent, &Lent);
     out.byte(b'\n')
 }
 
@@ -68,7 +91,7 @@ pub fn put_written(out: &mut Out, answer: Result<usize, Refusal>, lent: &[u8])
     ensures put { OutputsWhole (written_most (length lent.now)) (written_text (written_of answer) lent.now) out.old out.new }
 {
     if let Some(most) = longest_written(lent.len()) {
-        out.whole(most, |out| put_written_line(out, answer, lent))
+        whole(out, most, |out| put_written_line(out, answer, lent))
     }
 }
 
@@ -85,10 +108,10 @@ fn put_cancelled_line(out: &mut Out, answer: Result<(), Refusal>)
 pub fn put_cancelled(out: &mut Out, answer: Result<(), Refusal>)
     ensures put { OutputsWhole answer_most (cancelled_text (cancel_of answer)) out.old out.new }
 {
-    out.whole(ANSWER, |out| put_cancelled_line(out, answer))
+    whole(out, ANSWER, |out| put_cancelled_line(out, answer))
 }
 
-// The count of one port after a space. This and put_lent are two functions: for one that takes what puts the byte, the proof did not close where the closure given to `each` calls it.
+// The count of one port after a space.
 fn put_count(out: &mut Out, position: usize, count: &u8)
     ensures { Outputs (spaced_most byte_most) (spaced decimal position count.now) out.old out.new }
 {
@@ -96,11 +119,24 @@ fn put_count(out: &mut Out, position: usize, count: &u8)
     out.small(*count)
 }
 
+// The counts of a tick.
+struct Counts;
+
+impl PutElement<u8> for Counts {
+    ghost most = { λ _. spaced_most byte_most };
+
+    ghost text = { λ _. spaced decimal };
+
+    fn put(&self, out: &mut Out, position: usize, count: &u8) {
+        put_count(out, position, count)
+    }
+}
+
 fn put_ended_line(out: &mut Out, counts: &[u8; port::PORTS])
     ensures { Outputs answer_most (ended_text counts.now) out.old out.new }
 {
     out.word(b"ended");
-    out.each(counts, put_count);
+    out.each(counts, &Counts);
     out.byte(b'\n')
 }
 
@@ -108,7 +144,7 @@ fn put_ended_line(out: &mut Out, counts: &[u8; port::PORTS])
 pub fn put_ended(out: &mut Out, counts: [u8; port::PORTS])
     ensures put { OutputsWhole answer_most (ended_text counts) out.old out.new }
 {
-    out.whole(ANSWER, |out| put_ended_line(out, &counts))
+    whole(out, ANSWER, |out| put_ended_line(out, &counts))
 }
 
 // A refusal, and the number of the line that it is for.
@@ -138,7 +174,7 @@ fn put_restored_line(out: &mut Out, answer: Result<(), NotRestored>)
 pub fn put_restored(out: &mut Out, answer: Result<(), NotRestored>)
     ensures put { OutputsWhole answer_most (restored_text (restored_of answer)) out.old out.new }
 {
-    out.whole(ANSWER, |out| put_restored_line(out, answer))
+    whole(out, ANSWER, |out| put_restored_line(out, answer))
 }
 
 fn put_report(out: &mut Out, report: HidppReport)
@@ -191,7 +227,7 @@ fn put_reading_line(out: &mut Out, answer: Result<Reading, Refusal>)
 pub fn put_reading(out: &mut Out, answer: Result<Reading, Refusal>)
     ensures put { OutputsWhole answer_most (reading_text (reading_of answer)) out.old out.new }
 {
-    out.whole(ANSWER, |out| put_reading_line(out, answer))
+    whole(out, ANSWER, |out| put_reading_line(out, answer))
 }
 
 fn put_motion(out: &mut Out, motion: Motion)
@@ -222,7 +258,7 @@ fn put_moved_line(out: &mut Out, answer: Result<Motion, Refusal>)
 pub fn put_moved(out: &mut Out, answer: Result<Motion, Refusal>)
     ensures put { OutputsWhole answer_most (moved_text (moved_of answer)) out.old out.new }
 {
-    out.whole(ANSWER, |out| put_moved_line(out, answer))
+    whole(out, ANSWER, |out| put_moved_line(out, answer))
 }
 
 fn put_no_call_line(out: &mut Out, number: usize)
@@ -237,5 +273,5 @@ fn put_no_call_line(out: &mut Out, number: usize)
 pub fn put_no_call(out: &mut Out, number: usize)
     ensures put { OutputsWhole answer_most (no_call_text number) out.old out.new }
 {
-    out.whole(ANSWER, |out| put_no_call_line(out, number))
+    whole(out, ANSWER, |out| put_no_call_line(out, number))
 }

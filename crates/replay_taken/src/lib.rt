@@ -157,5 +157,7 @@ fn put_answer_line(out: &mut Out, answer: Result<Taken, Refusal>)
 pub fn put_taken(out: &mut Out, answer: Result<Taken, Refusal>)
     ensures put { OutputsWhole answer_most (taken_text (taken_of answer)) out.old out.new }
 {
-    out.whole(replay_fields::ANSWER, |out| put_answer_line(out, answer))
+    if out.has_room(replay_fields::ANSWER) {
+        put_answer_line(out, answer)
+    }
 }

@@ -8,7 +8,7 @@ ghost use Rattle.store.specs.Stores.{index_text, index_most, pad_line, pad_most,
 
 use port::Port;
 use report::{FeatureIndex, Refusal};
-use text::Out;
+use text::{Out, PutElement, PutLine};
 
 // The first line, and the longest line of a device: the fields, and the byte after each.
 const HEADER: usize = 4 + 1 + 1 + 1;
@@ -27,11 +27,24 @@ const LINE: usize = text::BYTE_MOST
 const ROOM: usize = HEADER + LINE * report::DEVICES as usize;
 
 // A tab, and the index of a feature.
-fn put_index(out: &mut Out, position: usize, index: &FeatureIndex)
-    ensures { Outputs index_most (index_text position index.now) out.old out.new }
+fn put_index(line: &mut Out, position: usize, index: &FeatureIndex)
+    ensures { Outputs index_most (index_text position index.now) line.old line.new }
 {
-    out.byte(text::TAB);
-    out.small(index.0)
+    line.byte(text::TAB);
+    line.small(index.0)
+}
+
+// The index of each known feature.
+struct Index;
+
+impl PutElement<FeatureIndex> for Index {
+    ghost most = { λ _. index_most };
+
+    ghost text = { λ _. index_text };
+
+    fn put(&self, out: &mut Out, position: usize, index: &FeatureIndex) {
+        put_index(out, position, index)
+    }
 }
 
 // The line of one device.
@@ -47,8 +60,21 @@ fn put_pad(out: &mut Out, number: u8, port: &Port)
     out.hex(text::DIGITS_32, port.reports as usize);
     out.byte(text::TAB);
     out.version(port.version);
-    out.each(&port.features, put_index);
+    out.each(&port.features, &Index);
     out.byte(text::NEWLINE)
+}
+
+// The line of each device that is stored.
+struct Pad;
+
+impl PutLine for Pad {
+    ghost most = { λ _. pad_most };
+
+    ghost line = { λ _. pad_line };
+
+    fn put(&self, out: &mut Out, number: u8, port: &Port) {
+        put_pad(out, number, port)
+    }
 }
 
 // Writes the store of the paired devices among the ports: refusal 10.
@@ -59,12 +85,5 @@ pub fn write_store(
 ) -> Result<usize, Refusal>
     ensures written { written_outcome result buffer.new ≡ store_rule ports offset buffer.old }
 {
-    text::write_paired(
-        &mut [0; ROOM],
-        b"pads\t1\n",
-        &ports,
-        put_pad,
-        buffer,
-        offset,
-    )
+    text::write_paired(&mut [0; ROOM], b"pads\t1\n", &ports, &Pad, buffer, offset)
 }

@@ -86,3 +86,6 @@ letters n (c ∷ word) = ap (λ (l : List ℕ). c ∷ l) (letters (suc n) word)
 
 pub word_done : {word : List ℕ} {at : ℕ} {b₀ : List ℕ} {next : ℕ} {b : List ℕ} {i : ℕ} → Putting letter 1 (length word) word at b₀ next b i → length word ≤ i → Puts (length word) word at b₀ next b
 word_done {word} p out = same_text (letters 0 word) (at_most (length word) (omega arith) (each_done p refl out))
+
+pub out_word : {word : List ℕ} {o o₁ : Out} {i : ℕ} → Outputting letter 1 (length word) word o o₁ i → length word ≤ i → Outputs (length word) word o o₁
+out_word p out = record { puts = word_done p.state out; same = p.same }

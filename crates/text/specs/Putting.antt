@@ -1,8 +1,6 @@
 -- Text put into a lent buffer from an offset on: as much of it as fits, or all of it or nothing.
-use Rattle.std.specs.Prelude.{ℕ, ◌+◌, ◌-◌, ◌*◌, ◌≤◌, ◌≡◌, List, cond, length, take}
-use Rattle.std.specs.Borrow.{Bor, MutBor}
-use Rattle.report.specs.Ports.{device_count}
-use Rattle.port.specs.declared.Port.{Port}
+use Rattle.std.specs.Prelude.{ℕ, ◌+◌, ◌-◌, ◌≤◌, ◌≡◌, List, cond, length, take}
+use Rattle.std.specs.Borrow.{MutBor}
 use Rattle.frame.specs.Writing.{fits_at, pasted}
 use Rattle.text.specs.declared.Out.{Out}
 
@@ -47,14 +45,3 @@ pub record OutputsWhole (most : ℕ) (text : List ℕ) (o o₁ : Out) : Type 0 w
 -- a call of a function puts the text
 abbrev pub PutsWith : (MutBor Out → Unit {0} → MutBor Out → Type 0) → ℕ → List ℕ → Type 0
 PutsWith post most text = (o o₁ : MutBor Out) → post o tt o₁ → Outputs most text o.now o₁.now
-
--- each call puts the text of its element
-abbrev pub PutsEach : {A : Type 0} → (MutBor Out → ℕ → Bor A → Unit {0} → MutBor Out → Type 0) → ℕ → (ℕ → A → List ℕ) → Type 0
-PutsEach {A} post most text =
-    (o o₁ : MutBor Out) (position : ℕ) (x : Bor A) → post o position x tt o₁ → Outputs most (text position x.now) o.now o₁.now
-
--- each call puts the line of its device, and there is room for a first line and as many lines as devices
-pub record PutsLines (post : MutBor Out → ℕ → Bor Port → Unit {0} → MutBor Out → Type 0) (first : List ℕ) (room : ℕ) (text : ℕ → Port → List ℕ) : Type 0 where
-  pub most : ℕ
-  pub puts : (o o₁ : MutBor Out) (number : ℕ) (p : Bor Port) → post o number p tt o₁ → Outputs most (text number p.now) o.now o₁.now
-  pub fits : length first + most * device_count ≤ room

@@ -1,11 +1,13 @@
 // Words, numbers and what a port holds, as bytes of text put into a lent buffer from an offset on.
 #![tactic(auto)]
 
-ghost use Rattle.std.specs.Prelude.{◌≡◌, [], ◌∷◌, ◌++◌, ◌<◌, ◌≤◌, ◌+◌, ◌*◌, ℕ, List, length};
+ghost use Rattle.std.specs.Prelude.{◌≡◌, [], ◌∷◌, ◌++◌, ◌<◌, ◌≤◌, ◌+◌, ◌*◌, ℕ, List, length, take};
+ghost use Rattle.report.specs.Ports.{device_count};
+ghost use Rattle.port.specs.declared.Port.{Port};
 ghost use Rattle.frame.specs.Writing.{frame_at, fits_at};
 ghost use Rattle.frame.specs.FrameContracts.{written_outcome};
 ghost use Rattle.text.specs.Words.{digit, hex, decimal};
-ghost use Rattle.text.specs.Putting.{Outputs, OutputsWhole, PutsWith, PutsEach, PutsLines};
+ghost use Rattle.text.specs.Putting.{Puts, Outputs};
 ghost use Rattle.text.specs.Texts.{each, paired_lines, number_most, byte_most, link_text, link_most, version_text, version_most, battery_text, battery_most, serial_text, serial_most};
 
 use port::{Battery, Port, Version};
@@ -50,6 +52,28 @@ pub struct Out<'a> {
     pub at: usize,
 }
 
+// What puts an element of a list, and is given its position too.
+pub trait PutElement<T> {
+    // The longest text, and the text of an element at its position.
+    ghost most: { Self → ℕ };
+
+    ghost text: { Self → ℕ → T → List ℕ };
+
+    fn put(&self, out: &mut Out, position: usize, element: &T)
+        ensures { Outputs (most self.now) (text self.now position element.now) out.old out.new };
+}
+
+// What puts the line of a device, and is given its number too.
+pub trait PutLine {
+    // The longest line, and the line of a device with its number.
+    ghost most: { Self → ℕ };
+
+    ghost line: { Self → ℕ → Port → List ℕ };
+
+    fn put(&self, out: &mut Out, number: u8, port: &Port)
+        ensures { Outputs (most self.now) (line self.now number port.now) out.old out.new };
+}
+
 // Each of these puts its text, or as much of it as fits, and moves the offset after it.
 impl Out<'_> {
     pub fn byte(&mut self, byte: u8)
@@ -61,15 +85,12 @@ impl Out<'_> {
         }
     }
 
-    // The bytes of a word.
+    // The bytes of a word, one by one: for a copy at once the archives for C would need a function from outside.
     pub fn word(&mut self, word: &[u8])
         ensures put { Outputs (length word.now) word.now self.old self.new }
     {
-        if self.at < self.buffer.len() {
-            let size = word.len().min(self.buffer.len() - self.at);
-            let end = self.at + size;
-            self.buffer[self.at..end].copy_from_slice(&word[..size]);
-            self.at = end;
+        for byte in word {
+            self.byte(*byte);
         }
     }
 
@@ -161,25 +182,33 @@ impl Out<'_> {
         }
     }
 
-    // Every element of a list in order, each as `put` puts it, which is given its position too.
-    pub fn each<T, F: Fn(&mut Out, usize, &T)>(&mut self, elements: &[T], put: F)
-        requires { F.IsAlwaysCallable put }
-        ensures each { (text : ℕ → T → List ℕ) (most : ℕ) → PutsEach (F.post put) most text → Outputs (most * length elements.now) (each text elements.now) self.old self.new }
+    // Every element of a list in order, each as `by` puts it.
+    pub fn each<T, P: PutElement<T>>(&mut self, elements: &[T], by: &P)
+        ensures put { Outputs (P.most by.now * length elements.now) (each (P.text by.now) elements.now) self.old self.new }
     {
         for (i, element) in elements.iter().enumerate() {
-            put(self, i, element);
+            by.put(self, i, element);
         }
     }
 
-    // What `put` puts, all of it or nothing: nothing where fewer than `most` bytes are left.
-    pub fn whole<F: FnOnce(&mut Out)>(&mut self, most: usize, put: F)
-        requires { F.IsAlwaysCallable put }
-        ensures whole { (text : List ℕ) → PutsWith (F.post put) most text → OutputsWhole most text self.old self.new }
+    // Whether so many bytes are left: a text of at most so many is put whole.
+    pub fn has_room(&self, most: usize) -> bool
+        ensures room { result ≡ fits_at most self.now.at (length self.now.buffer.now) }
     {
-        if frame::fits(most, self.at, self.buffer.len()) {
-            put(self)
-        }
+        frame::fits(most, self.at, self.buffer.len())
     }
+}
+
+// Puts a word at the front of a part of a buffer, and answers where it ends.
+fn put_front(part: &mut [u8], word: &[u8]) -> usize
+    ensures { Puts (length word.now) word.now 0 part.old result part.new }
+{
+    let mut out = Out {
+        buffer: part,
+        at: 0,
+    };
+    out.word(word);
+    out.at
 }
 
 // Writes a whole text at its offset, or answers 10. C hands a buffer and an offset in it.
@@ -190,22 +219,21 @@ pub fn write_at(bytes: &[u8], buffer: &mut [u8], offset: usize) -> Result<usize,
     if !frame::fits(size, offset, buffer.len()) {
         return Err(Refusal::NoRoom);
     }
-    buffer[offset..offset + size].copy_from_slice(bytes);
+    put_front(&mut buffer[offset..], bytes);
     Ok(size)
 }
 
-// Writes a first line, and after it the line of each paired device among the ports, as `line` puts it, which is given the device's number: refusal 10. `room` has room for every such text.
-pub fn write_paired<F: Fn(&mut Out, u8, &Port)>(
+// Writes a first line, and after it the line of each paired device among the ports, as `line` puts it: refusal 10. The text is put in `room` first, and what does not fit there is not written.
+pub fn write_paired<L: PutLine>(
     room: &mut [u8],
     first: &[u8],
     ports: &[Port; port::PORTS],
-    line: F,
+    line: &L,
     buffer: &mut [u8],
     offset: usize,
 ) -> Result<usize, Refusal>
-    requires call { F.IsAlwaysCallable line }
-    requires room { (text : ℕ → Port → List ℕ) × PutsLines (F.post line) first.now (length room.old) text }
-    ensures written { (text : ℕ → Port → List ℕ) → PutsLines (F.post line) first.now (length room.old) text → written_outcome result buffer.new ≡ frame_at (first.now ++ paired_lines text ports.now) offset buffer.old }
+    ensures written { length first.now + L.most line.now * device_count ≤ length room.old → written_outcome result buffer.new ≡ frame_at (first.now ++ paired_lines (L.line line.now) ports.now) offset buffer.old }
+    ensures part { written_outcome result buffer.new ≡ frame_at (take (length room.old) (first.now ++ paired_lines (L.line line.now) ports.now)) offset buffer.old }
 {
     let mut out = Out {
         buffer: room,
@@ -214,7 +242,7 @@ pub fn write_paired<F: Fn(&mut Out, u8, &Port)>(
     out.word(first);
     for (i, port) in ports[..DEVICES].iter().enumerate() {
         if port.paired {
-            line(&mut out, (i + 1) as u8, port);
+            line.put(&mut out, (i + 1) as u8, port);
         }
     }
     let Out { buffer: room, at } = out;

@@ -1,7 +1,9 @@
 -- `replay_dump::put_dump` meets its contract.
-use Rattle.std.proofs.Common.{rules}
-use Rattle.replay_dump.specs.DumpLines.{dump_text}
+use Rattle.text.proofs.PuttingLaws.{out_with_room, out_without_room}
 use Rattle.replay_dump.proofs.put_dump.Goals as goal
 
-pub returns : goal.returns
-returns c = record { put = c.whole.ensures.whole (dump_text c.args.station.now) (λ o o₁ put. search rules) }
+pub returns-then-has_room : goal.returns-then-has_room
+returns-then-has_room c = record { put = out_with_room c.put_ports.ensures c.has_room.ensures.room c.if-has_room.true }
+
+pub returns-else-has_room : goal.returns-else-has_room
+returns-else-has_room c = record { put = out_without_room _ _ _ c.has_room.ensures.room c.if-has_room.false }

@@ -1,8 +1,11 @@
 -- `replay_taken::put_taken` meets its contract.
-use Rattle.std.proofs.Common.{rules}
-use Rattle.port.specs.PortContracts.{taken_of}
-use Rattle.replay_taken.specs.TakenLines.{taken_text}
+use Rattle.text.proofs.PuttingLaws.{out_with_room, out_without_room}
 use Rattle.replay_taken.proofs.put_taken.Goals as goal
 
-pub returns : goal.returns
-returns c = record { put = c.whole.ensures.whole (taken_text (taken_of c.args.answer)) (λ o o₁ put. search rules) }
+pub returns-then-has_room : goal.returns-then-has_room
+returns-then-has_room c = record {
+  put = out_with_room c.put_answer_line.ensures c.has_room.ensures.room c.if-has_room.true;
+}
+
+pub returns-else-has_room : goal.returns-else-has_room
+returns-else-has_room c = record { put = out_without_room _ _ _ c.has_room.ensures.room c.if-has_room.false }

@@ -1,7 +1,7 @@
 -- `text::write_at` meets its contract: the whole text at its offset, or 10.
 use mathlib.Core.Path.{refl, sym, ◌∙◌}
 use Rattle.frame.proofs.WritingLaws.{no_room_law}
-use Rattle.text.proofs.WritingTextLaws.{copy_placed}
+use Rattle.text.proofs.WritingTextLaws.{put_placed}
 use Rattle.text.proofs.write_at.Goals as goal
 
 pub returns-then-not-fits : goal.returns-then-not-fits
@@ -11,5 +11,5 @@ returns-then-not-fits c = record {
 
 pub returns : goal.returns
 returns c = record {
-  written = copy_placed c.args.bytes.now c.args.buffer.now _ c.args.offset (sym c.fits.ensures.fitting ∙ c.if-not-fits.false) c.copy_from_slice.ensures.after;
+  written = put_placed c.args.bytes.now c.args.buffer.now c.args.offset (sym c.fits.ensures.fitting ∙ c.if-not-fits.false) c.put_front.ensures;
 }
