@@ -1,2 +1,3 @@
 pub mod RestoringLaws
 pub mod RestoredLaws
+pub mod OffsetRestoringLaws

@@ -66,23 +66,23 @@ indexes_done text i features {rest} so all h l =
     ap (λ (l : List FeatureIndex). found l rest) (sym (take_all i features (omega arith))) ∙ so ∙ ap (λ (k : ℕ). indexes_scan k text) is
 
 -- ports before those that are read
-abbrev with_all : List Port → StoreRead → StoreRead
+abbrev pub with_all : List Port → StoreRead → StoreRead
 with_all ports (store_of next) = store_of (ports ++ next)
 with_all ports of_other = of_other
 with_all ports (broken_at line) = broken_at line
 
-one_more : (ports : List Port) (p : Port) (r : StoreRead) → with_all ports (with_first p r) ≡ with_all (ports ++ (p ∷ [])) r
+pub one_more : (ports : List Port) (p : Port) (r : StoreRead) → with_all ports (with_first p r) ≡ with_all (ports ++ (p ∷ [])) r
 one_more ports p (store_of next) = ap store_of (sym (append_assoc ports (p ∷ []) next))
 one_more ports p of_other = refl
 one_more ports p (broken_at line) = refl
 
-none_before : (r : StoreRead) → r ≡ with_all [] r
+pub none_before : (r : StoreRead) → r ≡ with_all [] r
 none_before (store_of next) = refl
 none_before of_other = refl
 none_before (broken_at line) = refl
 
 -- one device, and then the others
-next_device : (more number line : ℕ) (text : List ℕ) → devices_in (suc more) number line text ≡ with_first (row_in number text).port (devices_in more (suc number) (line + (row_in number text).lines) (row_in number text).rest)
+pub next_device : (more number line : ℕ) (text : List ℕ) → devices_in (suc more) number line text ≡ with_first (row_in number text).port (devices_in more (suc number) (line + (row_in number text).lines) (row_in number text).rest)
 unfolding devices_in
 next_device more number line text = refl
 

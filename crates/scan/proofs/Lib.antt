@@ -1,2 +1,4 @@
 pub mod ScansLaws
 pub mod ExactLaws
+pub mod OffsetScans
+pub mod OffsetScansLaws

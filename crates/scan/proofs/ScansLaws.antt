@@ -73,7 +73,7 @@ capped_most n = go (ltb n too_large) refl
         omega (arith, capped_small n h)
     go false e = let h : too_large ≤ n = ltb-false _ _ e in omega (arith, capped_large n h)
 
-capped_more : (n d : ℕ) → capped (capped n * 10 + d) ≡ capped (n * 10 + d)
+pub capped_more : (n d : ℕ) → capped (capped n * 10 + d) ≡ capped (n * 10 + d)
 capped_more n d = go (ltb n too_large) refl
   where
     go : (b : Bool) → ltb n too_large ≡ b → capped (capped n * 10 + d) ≡ capped (n * 10 + d)
@@ -135,7 +135,7 @@ module _ {text : List ℕ} {value : ℕ} {rest : List ℕ} (s : Running text val
   run_ended d = ap (λ (k : ℕ). (k, rest)) s.counted ∙ ap capped_run (sym (run_stops s.n rest d) ∙ s.so)
 
 -- a zero alone
-capped_stop : (stop n : ℕ) (s : List ℕ) → stopped stop (capped n) s ≡ then_scan (stopped stop n s) (λ m rest. found (capped m) rest)
+pub capped_stop : (stop n : ℕ) (s : List ℕ) → stopped stop (capped n) s ≡ then_scan (stopped stop n s) (λ m rest. found (capped m) rest)
 unfolding stopped
 capped_stop stop n [] = refl
 capped_stop stop n (c ∷ s) = go (eqb c stop)
@@ -169,7 +169,7 @@ unfolding digits_scan
 digits_more i text e x = ap (λ (k : ℕ). digits_scan k text) (add-one i) ∙ ap (λ (y : Scan ℕ). then_scan y digit_more) e ∙ sym x
 
 -- what is missing stays missing
-gone : (text : List ℕ) (i more : ℕ) → digits_scan i text ≡ missing → digits_scan (more + i) text ≡ missing
+pub gone : (text : List ℕ) (i more : ℕ) → digits_scan i text ≡ missing → digits_scan (more + i) text ≡ missing
 unfolding digits_scan
 gone text i zero e = ap (λ (k : ℕ). digits_scan k text) (zero-add i) ∙ e
 gone text i (suc more) e = ap (λ (k : ℕ). digits_scan k text) (suc-add more i) ∙ ap (λ (x : Scan ℕ). then_scan x digit_more) (gone text i more e)
