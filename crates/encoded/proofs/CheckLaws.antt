@@ -10,7 +10,7 @@ use Rattle.encoded.specs.Rows.{row_size}
 use Rattle.encoded.specs.EncodedRuns.{rows_size}
 use Rattle.encoded.specs.EncodedContracts.{count_from, first_block}
 
-count_row : (n : ℕ) (c : Call) (d : Decoded) → count_from (n + row_size) d ≡ count_from n (followed c d)
+pub count_row : (n : ℕ) (c : Call) (d : Decoded) → count_from (n + row_size) d ≡ count_from n (followed c d)
 unfolding rows_size
 count_row n c malformed = refl
 count_row n c (calls cs) = let e : n + row_size + rows_size cs ≡ n + (row_size + rows_size cs) = omega arith in ap Some e

@@ -3,6 +3,9 @@ pub mod EncodingLaws
 pub mod RowsLaws
 pub mod WithinLaws
 pub mod ReadBackLaws
+pub mod CallsLaws
 pub mod CheckLaws
+pub mod CheckAtLaws
 pub mod PerformLaws
+pub mod PerformAtLaws
 pub mod Demand3Laws

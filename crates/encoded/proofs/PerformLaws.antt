@@ -1,21 +1,24 @@
 -- Laws of the second pass: the calls made, and the calls left to make; and of both passes together.
-use Rattle.std.specs.Prelude.{ℕ, ◌+◌, ◌-◌, ◌≤◌, ◌<◌, Bool, true, false, cond, leb, List, [], ◌∷◌, ◌++◌, Some, None, Ok}
+use Rattle.std.specs.Prelude.{ℕ, ◌+◌, ◌-◌, ◌≤◌, ◌<◌, Bool, true, false, cond, leb, List, [], ◌∷◌, ◌++◌, Some, None, Result, Ok}
 use Rattle.std.proofs.Math.Path.{◌≡◌, refl, ap}
 use Rattle.std.proofs.Common.{sym, ◌∙◌, append_assoc, arith, length-append, length-drop, length-take-le, take_at, drop_at, le-leb, leb-true}
 use Rattle.std.proofs.Math.ListN.{length, take, drop}
-use Rattle.std.proofs.Math.Seq.{drop-drop}
+use Rattle.std.proofs.Math.Seq.{drop-drop, take_all}
 use Rattle.std.proofs.lemmas.Bool.{lt-leb}
 use Rattle.report.specs.Refusals.{no_room}
+use Rattle.text.specs.Putting.{Filled, filled, put_rule, Puts}
 use Rattle.port.specs.declared.Called.{Called}
 use Rattle.station.specs.declared.Station.{Station}
+use Rattle.station.specs.Stations.{fresh_station}
 use Rattle.sequence.specs.Steps.{Call, step, run, returned_by}
+use Rattle.encoded.specs.declared.RunRefusal.{RunRefusal}
 use Rattle.encoded.specs.Blocks.{Header, lent_size, block_call}
 use Rattle.encoded.specs.Decoding.{Decoded, malformed, calls, followed, at_end, decode_by, decode}
 use Rattle.encoded.proofs.DecodingLaws.{end_law, block_law, no_block, shorter}
 use Rattle.encoded.specs.Rows.{row_size}
 use Rattle.encoded.proofs.RowsLaws.{row_length}
 use Rattle.encoded.specs.EncodedRuns.{lents, rows, rows_size, RunAnswer, EncodedOutcome, refused_run, ran, encoded_by, encoded_rule, malformed_calls}
-use Rattle.encoded.specs.EncodedContracts.{first_block, Left, left_of, left_by, MadePromise, count_from, Ready, EncodedPromise}
+use Rattle.encoded.specs.EncodedContracts.{first_block, Left, left_of, left_by, MadePromise, count_from, Ready, RunCalled, ran_of, EncodedPromise, c_ran, c_run_outcome, c_left}
 
 -- the length of a lent part
 pub part_for : (b : List ℕ) (p n m : ℕ) → n ≡ m → p + m ≤ length b → length (take (p + n - p) (drop p b)) ≡ m
@@ -28,11 +31,11 @@ pub record FilledTo (b front a : List ℕ) (p : ℕ) : Type 0 where
   pub within : p ≤ length b
   pub so : a ≡ front ++ drop p b
 
-filled_none : (b : List ℕ) → FilledTo b [] b 0
+pub filled_none : (b : List ℕ) → FilledTo b [] b 0
 filled_none b = record { size = refl; within = omega arith; so = refl }
 
 module _ {b front a : List ℕ} {p : ℕ} (k : FilledTo b front a p) where
-  filled_rest : drop p a ≡ drop p b
+  pub filled_rest : drop p a ≡ drop p b
   filled_rest = ap (drop p) k.so ∙ drop_at front (drop p b) p k.size
 
   pub filled_length : length a ≡ length b
@@ -49,14 +52,22 @@ module _ {b front a : List ℕ} {p : ℕ} (k : FilledTo b front a p) where
       }
 
   -- the part up to p + n is lent, and comes back as ys
-  filled_more : (n : ℕ) (ys : List ℕ) → p + n ≤ length b → length ys ≡ length (take (p + n - p) (drop p a)) → FilledTo b (front ++ ys) (take p a ++ (ys ++ drop (p + n - p) (drop p a))) (p + n)
+  pub filled_more : (n : ℕ) (ys : List ℕ) → p + n ≤ length b → length ys ≡ length (take (p + n - p) (drop p a)) → FilledTo b (front ++ ys) (take p a ++ (ys ++ drop (p + n - p) (drop p a))) (p + n)
   filled_more n ys w e =
       let same : n ≡ length ys = sym (e ∙ part_for a p n n refl (omega (arith, filled_length))) in
       let part : p + length ys - p ≡ length ys = omega arith in
       simp (same, part) (filled_by ys (omega arith))
 
+  -- these bytes are put
+  pub filled_put : {m next : ℕ} {ys a₁ : List ℕ} → Puts m ys p a next a₁ → p + length ys ≤ length b → (next ≡ p + length ys) × FilledTo b (front ++ ys) a₁ (p + length ys)
+  unfolding put_rule
+  filled_put {next = next} {ys = ys} {a₁ = a₁} put w =
+      let fits : take (length a - p) ys ≡ ys = take_all (length a - p) ys (omega (arith, filled_length)) in
+      let e : filled next a₁ ≡ filled (p + length ys) (take p a ++ (ys ++ drop (p + length ys) a)) = simp fits at put.put in
+      (ap (λ (f : Filled). f.next) e, simp (ap (λ (f : Filled). f.lent) e, ← drop-drop (length ys) p a) (filled_by ys w))
+
 -- what the calls that are left come to, with the buffers and rows of those that are made
-abbrev course : ℕ → List ℕ → List ℕ → List ℕ → Station → List Call → EncodedOutcome
+abbrev pub course : ℕ → List ℕ → List ℕ → List ℕ → Station → List Call → EncodedOutcome
 course total w₀ lent made st cs =
     record {
       answer = RunAnswer.done total;
@@ -99,13 +110,13 @@ begun st s a w r =
     }
 
 -- a list of calls, by its first block
-record Split (b : Bool) (c : Call) (d : Decoded) (todo : List Call) : Type 0 where
-  whole : b ≡ true
-  rest : List Call
-  is_rest : d ≡ calls rest
-  is_todo : todo ≡ c ∷ rest
+pub record Split (b : Bool) (c : Call) (d : Decoded) (todo : List Call) : Type 0 where
+  pub whole : b ≡ true
+  pub rest : List Call
+  pub is_rest : d ≡ calls rest
+  pub is_todo : todo ≡ c ∷ rest
 
-split : (b : Bool) (c : Call) (d : Decoded) (todo : List Call) → cond b (followed c d) malformed ≡ calls todo → Split b c d todo
+pub split : (b : Bool) (c : Call) (d : Decoded) (todo : List Call) → cond b (followed c d) malformed ≡ calls todo → Split b c d todo
 split true c malformed todo e = absurd (let z : ◌≡◌ {A = ℕ} 0 1 = cc in omega arith)
 split true c (calls cs) todo e = record { whole = refl; rest = cs; is_rest = refl; is_todo = cc }
 split false c d todo e = absurd (let z : ◌≡◌ {A = ℕ} 0 1 = cc in omega arith)
@@ -175,7 +186,7 @@ all_read fuel [] a todo none e = refl
 all_read fuel (x ∷ l) a todo none e = absurd (let m : malformed ≡ calls todo = sym (no_block fuel (x ∷ l) a (omega arith) none) ∙ e in let z : ◌≡◌ {A = ℕ} 0 1 = cc in omega arith)
 
 -- nothing is left of the blocks: nothing is left of the arena, and no call is left
-nothing : (l : List ℕ) (todo : List Call) → at_end l ≡ calls todo → (l ≡ []) × (todo ≡ [])
+pub nothing : (l : List ℕ) (todo : List Call) → at_end l ≡ calls todo → (l ≡ []) × (todo ≡ [])
 nothing [] todo e = (refl, cc)
 nothing (x ∷ l) todo e = absurd (let z : ◌≡◌ {A = ℕ} 0 1 = cc in omega arith)
 
@@ -224,3 +235,15 @@ module _ (st : Station) (s a w : List ℕ) where
   has_no_room m h =
       let c = some_calls m in
       (simp (lt-leb (rows_size c.made) (length w) (omega (arith, c.count)))) ∙ by c.decoded
+
+  pub is_ready_law : {n : ℕ} → Some n ≡ count_from 0 (decode s a) → n ≤ length w → Ready s a w
+  is_ready_law m h =
+      let c = some_calls m in
+      record { made = c.made; decoded = c.decoded; room = omega (arith, c.count) }
+
+-- what C is given of a run on a fresh station
+pub for_c : {st : Station} (s a w : List ℕ) {a' w' : List ℕ} (r : RunCalled) {x : Result ℕ RunRefusal} → st ≡ fresh_station → EncodedPromise st s a w r a' w' → r.answer ≡ x → c_left (c_ran (ran_of x)) a' w' ≡ c_run_outcome (encoded_rule fresh_station s a w)
+for_c s a w {a'} {w'} r e p q =
+    ap (λ (x : Result ℕ RunRefusal). c_left (c_ran (ran_of x)) a' w') (sym q)
+    ∙ ap c_run_outcome p
+    ∙ ap (λ (st : Station). c_run_outcome (encoded_rule st s a w)) e
