@@ -77,7 +77,7 @@ module _ (s : State) (b : List ℕ) (count room : ℕ) (ordered : s.start ≤ s.
   abbrev input : List ℕ
   input = input_of s count b
 
-  input_is : drop s.size (take (s.size + count) b) ≡ input
+  pub input_is : drop s.size (take (s.size + count) b) ≡ input
   input_is =
       ap (drop s.size) (take-add s.size count b)
       ∙ drop_at (take s.size b) input s.size (length-take-le s.size b (omega (arith, fits)))
@@ -148,7 +148,7 @@ module _ (s : State) (b : List ℕ) (count room : ℕ) (ordered : s.start ≤ s.
 
 -- the end of the script
 module _ (s : State) (b : List ℕ) (room : ℕ) (ordered : s.start ≤ s.size) (free : s.size < length b) where
-  held_size : length (held_of s b) ≡ s.size - s.start
+  pub held_size : length (held_of s b) ≡ s.size - s.start
   held_size =
       length-drop s.start (take s.size b)
       ∙ ap (λ (n : ℕ). n - s.start) (length-take-le s.size b (omega (arith, free)))

@@ -2,7 +2,9 @@ pub mod ShortLaws
 pub mod CutLaws
 pub mod SqueezeLaws
 pub mod MoveLaws
+pub mod MovingLaws
 pub mod HeldLaws
 pub mod TurnRuleLaws
 pub mod FeedLaws
+pub mod FeedCasesLaws
 pub mod TurnLaws

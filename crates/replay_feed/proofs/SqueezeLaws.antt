@@ -1,12 +1,12 @@
 -- Laws of squeezing in place: `kept` bytes are left of the first i.
-use Rattle.std.specs.Prelude.{ℕ, suc, ◌+◌, ◌-◌, ◌≤◌, ◌<◌, ◌≡◌, Bool, cond, eqb, ltb, length, drop, set, get_or}
+use Rattle.std.specs.Prelude.{ℕ, suc, ◌+◌, ◌-◌, ◌≤◌, ◌<◌, ◌≡◌, refl, Bool, cond, eqb, ltb, length, drop, set, get_or}
 use Rattle.std.proofs.Math.Path.{sym, ap}
 use Rattle.std.proofs.Common.{◌∙◌, subst, add-one, arith, length-set, drop_of_length-le, take_all, take-take, drop-cons, get_or-take, drop-set-lt}
 use Rattle.std.proofs.Math.Bool.{true, false}
 use mathlib.Core.List.{List, [], ◌∷◌, ◌++◌, append_assoc, append-nil}
 use Rattle.std.proofs.Math.ListN.{take}
 use Rattle.std.proofs.Math.Seq.{length-take-le, take-suc-set}
-use borrow.Author.Tests.{le-ltb, lt-leb, le-leb}
+use borrow.Author.Tests.{lt-ltb, le-ltb, lt-leb, le-leb}
 use Rattle.replay_line.specs.LineWords.{space}
 use Rattle.report.proofs.ChoicesLaws.{both}
 use Rattle.replay_feed.specs.LongLines.{is_spare, squeezed, squeezed_line, longest, is_cut, shortened, held_text, held_cut}
@@ -15,7 +15,12 @@ pub record Squeezing (b₀ b : List ℕ) (size kept i : ℕ) (after : Bool) : Ty
   pub so : take kept b ++ squeezed after (drop i (take size b₀)) ≡ squeezed false (take size b₀)
   pub behind : drop i b ≡ drop i b₀
   pub fewer : kept ≤ i
+  pub within : i ≤ size
   pub same : length b ≡ length b₀
+
+pub squeeze_begun : (b : List ℕ) (size : ℕ) → Squeezing b b size 0 0 false
+squeeze_begun b size =
+    record { so = refl; behind = refl; fewer = omega arith; within = omega arith; same = refl }
 
 module _ {b₀ b : List ℕ} {size kept i : ℕ} {after : Bool} (s : Squeezing b₀ b size kept i after) (room : size ≤ length b₀) where
   module _ (read : i < size) where
@@ -63,6 +68,7 @@ module _ {b₀ b : List ℕ} {size kept i : ℕ} {after : Bool} (s : Squeezing b
               ∙ squeezed_by;
           behind = ap (λ (k : ℕ). drop k b) (add-one i) ∙ same_behind ∙ sym (ap (λ (k : ℕ). drop k b₀) (add-one i));
           fewer = omega (arith, s.fewer);
+          within = omega (arith, read);
           same = s.same;
         }
 
@@ -82,6 +88,7 @@ module _ {b₀ b : List ℕ} {size kept i : ℕ} {after : Bool} (s : Squeezing b
               ∙ same_behind
               ∙ sym (ap (λ (k : ℕ). drop k b₀) (add-one i));
           fewer = omega (arith, s.fewer);
+          within = omega (arith, read);
           same = length-set b kept c ∙ s.same;
         }
 
@@ -90,9 +97,12 @@ module _ {b₀ b : List ℕ} {size kept i : ℕ} {after : Bool} (s : Squeezing b
         subst (λ (l : List ℕ). Squeezing b₀ l size n₁ (i + 1) (eqb c space)) (sym p)
         (subst (λ (k : ℕ). Squeezing b₀ b₂ size k (i + 1) (eqb c space)) (sym n) q)
 
-    pub squeeze_more : {b₁ : List ℕ} {next : ℕ} (t : Bool) → is_spare c after ≡ t → b₁ ≡ cond t b (set b kept c) → next ≡ cond t kept (kept + 1) → Squeezing b₀ b₁ size next (i + 1) (eqb c space)
-    squeeze_more true e p n = same_state p n (spare e)
-    squeeze_more false e p n = same_state p n (taken e)
+    more_by : {b₁ : List ℕ} {next : ℕ} (t : Bool) → is_spare c after ≡ t → b₁ ≡ cond t b (set b kept c) → next ≡ cond t kept (kept + 1) → Squeezing b₀ b₁ size next (i + 1) (eqb c space)
+    more_by true e p n = same_state p n (spare e)
+    more_by false e p n = same_state p n (taken e)
+
+    pub squeeze_more : {b₁ : List ℕ} {next : ℕ} (t : Bool) → t ≡ is_spare c after → b₁ ≡ cond t b (set b kept c) → next ≡ cond t kept (kept + 1) → Squeezing b₀ b₁ size next (i + 1) (eqb c space)
+    squeeze_more t e p n = more_by t (sym e) p n
 
   module _ (out : size ≤ i) where
     pub squeeze_front : take kept b ≡ squeezed false (take size b₀)
@@ -101,6 +111,17 @@ module _ {b₀ b : List ℕ} {size kept i : ℕ} {after : Bool} (s : Squeezing b
         sym (append-nil (take kept b))
         ∙ ap (λ (l : List ℕ). take kept b ++ squeezed after l) (sym (drop_of_length-le (take size b₀) {i = i} (omega (arith, out, length-take-le size b₀ room))))
         ∙ s.so
+
+    pub squeeze_behind : drop size b ≡ drop size b₀
+    squeeze_behind =
+        let end : i ≡ size = omega (arith, out, s.within) in
+        sym (ap (λ (k : ℕ). drop k b) end) ∙ s.behind ∙ ap (λ (k : ℕ). drop k b₀) end
+
+-- what is held while there is room after it
+pub held_whole : (held : ℕ) (b : List ℕ) → held < length b → (held < length b) × ((take held b ≡ held_text (length b) (take held b)) × (false ≡ held_cut (length b) (take held b)))
+held_whole held b h =
+    let test = lt-ltb (length (take held b)) (length b) (omega (arith, h, length-take-le held b (omega (arith, h)))) in
+    (h, (sym (simp test), sym (simp test)))
 
 -- what is held of a line that fills the buffer: the last byte follows what is left of the others
 module _ (held : ℕ) (b₀ b : List ℕ) (kept : ℕ) (full : length b₀ ≤ held) (some_bytes : longest < length b₀) (same : length b₀ ≡ length b) where
@@ -135,6 +156,9 @@ module _ (held : ℕ) (b₀ b : List ℕ) (kept : ℕ) (full : length b₀ ≤ h
         sym (ap length all_left)
         ∙ length-take-le (suc kept) b₁ (omega (arith, same, some_bytes, fewer, length-set b kept (get_or b last 0)))
 
+    still : length b₁ ≡ length b₀
+    still = length-set b kept (get_or b last 0) ∙ sym same
+
     -- it is no longer than a call may be
     module _ (h : kept < longest) where
       no_cut : is_cut b₀ ≡ false
@@ -151,6 +175,10 @@ module _ (held : ℕ) (b₀ b : List ℕ) (kept : ℕ) (full : length b₀ ≤ h
       pub squeezed_goes_on : false ≡ held_cut (length b₀) (take held b₀)
       squeezed_goes_on = sym (simp (no_room_law, no_cut)) ∙ ap (held_cut (length b₀)) whole
 
+      -- with room after it
+      pub held_squeezed : (kept + 1 < length b₁) × ((take (kept + 1) b₁ ≡ held_text (length b₀) (take held b₀)) × (false ≡ held_cut (length b₀) (take held b₀)))
+      held_squeezed = (omega (arith, h, some_bytes, still), (squeezed_text, squeezed_goes_on))
+
     -- it is longer, and cut
     module _ (h : longest ≤ kept) where
       cut : is_cut b₀ ≡ true
@@ -166,3 +194,6 @@ module _ (held : ℕ) (b₀ b : List ℕ) (kept : ℕ) (full : length b₀ ≤ h
 
       pub cut_stops : true ≡ held_cut (length b₀) (take held b₀)
       cut_stops = sym (simp (no_room_law, cut)) ∙ ap (held_cut (length b₀)) whole
+
+      pub held_cut_law : (longest < length b₁) × ((take longest b₁ ≡ held_text (length b₀) (take held b₀)) × (true ≡ held_cut (length b₀) (take held b₀)))
+      held_cut_law = (omega (arith, some_bytes, still), (cut_text, cut_stops))

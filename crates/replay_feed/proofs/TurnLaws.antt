@@ -1,17 +1,28 @@
--- Laws of a turn of the program: where it is made it is the rule's.
-use Rattle.std.specs.Prelude.{ℕ, ◌+◌, ◌≤◌, ◌<◌, ◌≡◌, refl, Bool, true, false, not, ◌&&◌, List, eqb, leb, ltb, length}
-use Rattle.std.proofs.Common.{sym, ◌∙◌, true≢false, leb-true, ltb-true, le-leb, lt-ltb, eq-eqb, ne_eqb}
+-- Laws of a turn of the program: where it is made it is the rule's, and else nothing changes.
+use Rattle.std.specs.Prelude.{ℕ, ◌+◌, ◌≤◌, ◌<◌, ◌≡◌, refl, Bool, true, false, not, ◌&&◌, List, [], eqb, leb, ltb, length, drop}
+use Rattle.std.proofs.Common.{sym, ◌∙◌, true≢false, arith, leb-true, ltb-true, le-leb, lt-ltb, eq-eqb, ne_eqb}
 use mathlib.Core.Logic.{◌⊎◌, inl, inr}
 use Rattle.std.proofs.Math.Path.{ap}
 use Rattle.std.proofs.Math.Bool.{cond}
 use Rattle.std.proofs.lemmas.Bool.{false≢true}
 use Rattle.report.proofs.ChoicesLaws.{both}
+use Rattle.station.specs.declared.Station.{Station}
+use Rattle.station.specs.Stations.{fresh_station}
 use Rattle.replay_desk.specs.LineAnswers.{answer_room}
 use Rattle.replay_feed.specs.declared.State.{State}
 use Rattle.replay_feed.specs.LongLines.{longest}
 use Rattle.replay_feed.specs.Turns.{is_nothing, Turned, feed_rule, end_rule, turn_rule, refused_turn}
-use Rattle.replay_feed.specs.TurnContracts.{input_of, pending_of, is_ready, turn_for}
+use Rattle.replay_feed.specs.TurnContracts.{input_of, pending_of, turned_of, Starts, Standing, is_ready, turn_for, refused_state, Leaves}
 use Rattle.replay_feed.proofs.FeedLaws.{empty_size, input_size}
+
+pub starts : {st : Station} → st ≡ fresh_station → Starts (record { station = st; number = 0; start = 0; size = 0; cut = false; reading = true; going = true; whole = false; filled = 0 })
+starts e =
+    record {
+      pending_is = λ buffer. ap (λ (x : Station). record { station = x; number = 0; held = []; cut = false; reading = true; going = true; whole = false }) e;
+      begins = refl;
+      empty = refl;
+      filled = refl;
+    }
 
 -- what a turn that is made can count on
 pub record Ready (s : State) (count buffer output : ℕ) : Type 0 where
@@ -51,7 +62,7 @@ behind_true true e = refl
 behind_true false e = absurd (false≢true e)
 
 -- where all else holds, it goes by the last test
-ready_at : (s : State) (count buffer output : ℕ) {r : Bool} → s.going ≡ true → s.start ≤ s.size → s.size + count ≤ buffer → longest < buffer → answer_room ≤ output → r ≡ cond s.reading (ltb s.size buffer) (not s.cut) → r ≡ is_ready s count buffer output
+pub ready_at : (s : State) (count buffer output : ℕ) {r : Bool} → s.going ≡ true → s.start ≤ s.size → s.size + count ≤ buffer → longest < buffer → answer_room ≤ output → r ≡ cond s.reading (ltb s.size buffer) (not s.cut) → r ≡ is_ready s count buffer output
 ready_at s count buffer output going ordered fits large answer last =
     last
     ∙ behind_true (leb answer_room output) (le-leb answer_room output answer)
@@ -77,6 +88,22 @@ module _ (s : State) (count : ℕ) (b o : List ℕ) where
   chosen t =
       cond t (turn_rule (length b) (length o) (pending_of s b) (input_of s count b)) (refused_turn (pending_of s b))
 
+  -- a turn that is refused
+  module _ (e : is_ready s count (length b) (length o) ≡ false) where
+    pub refuses : turned_of (refused_state s) b o ≡ turn_for s count b (length o)
+    refuses = ap chosen (sym e)
+
+    pub refused_leaves : Leaves s count b o (refused_state s) b o
+    refused_leaves =
+        record {
+          standing = λ t. absurd (true≢false (sym t ∙ e));
+          refused = λ f. (refl, (refl, refl));
+          filled = omega arith;
+          behind = refl;
+          same_input = refl;
+          same_output = refl;
+        }
+
   -- a turn that is made
   module _ (e : is_ready s count (length b) (length o) ≡ true) where
     made : Ready s count (length b) (length o)
@@ -96,16 +123,34 @@ module _ (s : State) (count : ℕ) (b o : List ℕ) where
         ∙ ap (λ (t : Bool). cond t (end_rule (length o) (pending_of s b)) (feed_rule (length b) (length o) (pending_of s b) (input_of s count b))) (sym is_empty_law)
         ∙ ap chosen (sym e)
 
+    -- by both tests at once
+    pub made_at_end : {turned : Turned} → ends ≡ true → turned ≡ end_rule (length o) (pending_of s b) → turned ≡ turn_for s count b (length o)
+    made_at_end f k =
+        by_end (k ∙ ap (λ (t : Bool). cond t (end_rule (length o) (pending_of s b)) (feed_rule (length b) (length o) (pending_of s b) (input_of s count b))) (sym f))
+
+    pub made_before : {turned : Turned} → ends ≡ false → turned ≡ feed_rule (length b) (length o) (pending_of s b) (input_of s count b) → turned ≡ turn_for s count b (length o)
+    made_before f k =
+        by_end (k ∙ ap (λ (t : Bool). cond t (end_rule (length o) (pending_of s b)) (feed_rule (length b) (length o) (pending_of s b) (input_of s count b))) (sym f))
+
+    -- by each
     pub finishes : {turned : Turned} → s.reading ≡ true → count ≡ 0 → turned ≡ end_rule (length o) (pending_of s b) → turned ≡ turn_for s count b (length o)
     finishes reading none k =
-        let is_end : ends ≡ true = ap (λ (t : Bool). t && eqb count 0) reading ∙ eq-eqb count 0 none in
-        by_end (k ∙ sym (simp is_end))
+        made_at_end (ap (λ (t : Bool). t && eqb count 0) reading ∙ eq-eqb count 0 none) k
 
     no_end : ((s.reading ≡ true) × (count ≡ 0 → ⊥)) ⊎ (s.reading ≡ false) → ends ≡ false
     no_end (inl h) = ap (λ (t : Bool). t && eqb count 0) h.0 ∙ ne_eqb count 0 h.1
     no_end (inr h) = ap (λ (t : Bool). t && eqb count 0) h
 
     pub feeds : {turned : Turned} → ((s.reading ≡ true) × (count ≡ 0 → ⊥)) ⊎ (s.reading ≡ false) → turned ≡ feed_rule (length b) (length o) (pending_of s b) (input_of s count b) → turned ≡ turn_for s count b (length o)
-    feeds going_on k =
-        let is_end : ends ≡ false = no_end going_on in
-        by_end (k ∙ sym (simp is_end))
+    feeds going_on k = made_before (no_end going_on) k
+
+    pub made_leaves : (r : State) {b₁ o₁ : List ℕ} → Standing r b₁ o₁ → drop r.filled o₁ ≡ drop r.filled o → length b ≡ length b₁ → length o ≡ length o₁ → Leaves s count b o r b₁ o₁
+    made_leaves r stands behind same_input same_output =
+        record {
+          standing = λ t. stands;
+          refused = λ f. absurd (true≢false (sym e ∙ f));
+          filled = stands.filled;
+          behind = behind;
+          same_input = sym same_input;
+          same_output = sym same_output;
+        }

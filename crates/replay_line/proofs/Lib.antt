@@ -3,4 +3,7 @@ pub mod LineValuesLaws
 pub mod LineFieldsLaws
 pub mod LineCallsLaws
 pub mod LineBoundsLaws
+pub mod OffsetWordsLaws
+pub mod OffsetFieldsLaws
+pub mod CountedDigitsLaws
 pub mod LineExamples

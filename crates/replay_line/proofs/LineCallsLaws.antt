@@ -2,17 +2,29 @@
 use Rattle.std.specs.Prelude.{ℕ, ◌≡◌, refl, Bool, true, false, cond, ◌&&◌, List, [], ◌∷◌, length, Option, Some, None}
 use Rattle.std.specs.Str.{IsUtf8, is_utf8, chars}
 use lib.Utf8.{encode}
-use Rattle.std.proofs.Common.{sym, subst, arith}
+use Rattle.std.proofs.Common.{sym, ◌∙◌, subst, arith}
 use Rattle.std.proofs.lemmas.Str.{IsUtf8-from_is_utf8}
 use Rattle.std.proofs.lemmas.Bool.{lt-leb}
 use Rattle.report.proofs.ChoicesLaws.{both}
+use Rattle.replay_line.specs.declared.Parsed.{Parsed}
 use Rattle.replay_line.specs.LineWords.{same_word}
 use Rattle.replay_line.proofs.LineWordsLaws.{same_decides}
 use Rattle.replay_line.specs.LineFields.{NextValue, nothing, got, and_then, Lent, lent, in_front, bytes_of, limited}
 use Rattle.replay_line.specs.LineValues.{hex_byte}
 use Rattle.replay_line.specs.Commands.{LineWriter, Command, no_call, write}
 use Rattle.replay_line.specs.LineCalls.{with_no_more, given, with_bytes, lent_alone, LineRow, other_rows, writer_rows, table, command_named, command_in, without_return}
-use Rattle.replay_line.specs.LineContracts.{lent_call}
+use Rattle.replay_line.specs.LineContracts.{Parses, lent_call}
+
+-- the same command said in another way
+pub same_command : {a b : Command} {r : Option Parsed} {buffer : List ℕ} → Parses b r buffer → a ≡ b → Parses a r buffer
+same_command h e = record { so = h.so ∙ sym e; within = h.within }
+
+-- an answer without bytes: whatever the buffer holds
+abbrev pub ParsesBare : Command → Option Parsed → Type 0
+ParsesBare command r = (buffer : List ℕ) → Parses command r buffer
+
+pub same_bare : {a b : Command} {r : Option Parsed} → ParsesBare b r → a ≡ b → ParsesBare a r
+same_bare h e buffer = same_command (h buffer) e
 
 -- none may have a byte
 pub no_bytes : (command : List ℕ → Command) (words : List (List ℕ)) → with_bytes 0 command words ≡ with_no_more (command []) words

@@ -39,9 +39,13 @@ module _ (limit : ℕ) where
       by (Some n) = valued_within n following (leb n limit)
 
 -- bytes after others
-abbrev after : List ℕ → Option (List ℕ) → Option (List ℕ)
+abbrev pub after : List ℕ → Option (List ℕ) → Option (List ℕ)
 after read None = None
 after read (Some bytes) = Some (read ++ bytes)
+
+pub after_nothing : (o : Option (List ℕ)) → o ≡ after [] o
+after_nothing None = refl
+after_nothing (Some bytes) = refl
 
 after_one : (read : List ℕ) (b : ℕ) (o : Option (List ℕ)) → after read (in_front (Some b) o) ≡ after (read ++ (b ∷ [])) o
 after_one read b None = refl

@@ -30,11 +30,11 @@ grows n (c ∷ text) =
     let r : n * 10 + (c - 48) ≤ value_after (n * 10 + (c - 48)) text = grows (n * 10 + (c - 48)) text in
     omega arith
 
-digit_more_law : (n c : ℕ) (text : List ℕ) → is_digit c ≡ true → digits_after n (c ∷ text) ≡ digits_after (n * 10 + (c - 48)) text
+pub digit_more_law : (n c : ℕ) (text : List ℕ) → is_digit c ≡ true → digits_after n (c ∷ text) ≡ digits_after (n * 10 + (c - 48)) text
 unfolding digits_after all_digits value_after
 digit_more_law n c text h = simp h
 
-no_digit : (n c : ℕ) (text : List ℕ) → is_digit c ≡ false → digits_after n (c ∷ text) ≡ None
+pub no_digit : (n c : ℕ) (text : List ℕ) → is_digit c ≡ false → digits_after n (c ∷ text) ≡ None
 unfolding digits_after all_digits
 no_digit n c text h = simp h
 
@@ -46,7 +46,7 @@ too_great n text h = by (all_digits text)
     by true = simp (lt-leb (value_after n text) greatest (omega (arith, grows n text)))
     by false = refl
 
-no_more : (n : ℕ) → n ≤ greatest → digits_after n [] ≡ Some n
+pub no_more : (n : ℕ) → n ≤ greatest → digits_after n [] ≡ Some n
 unfolding digits_after all_digits value_after
 no_more n h = simp (le-leb n greatest h)
 

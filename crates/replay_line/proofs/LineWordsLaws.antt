@@ -11,16 +11,16 @@ use Rattle.std.proofs.lemmas.Slice.Eq.{compares_Decides}
 use Rattle.replay_line.specs.LineWords.{space, closed, words_after, words, same_word}
 
 -- a space closes what is read of a word
-at_space : (read : List ℕ) (c : ℕ) (text : List ℕ) → c ≡ space → words_after read (c ∷ text) ≡ closed read (words text)
+pub at_space : (read : List ℕ) (c : ℕ) (text : List ℕ) → c ≡ space → words_after read (c ∷ text) ≡ closed read (words text)
 unfolding words_after words
 at_space read c text h = simp (eq-eqb c space h)
 
 -- any other character goes on with it
-at_other : (read : List ℕ) (c : ℕ) (text : List ℕ) → (c ≡ space → ⊥) → words_after read (c ∷ text) ≡ words_after (read ++ (c ∷ [])) text
+pub at_other : (read : List ℕ) (c : ℕ) (text : List ℕ) → (c ≡ space → ⊥) → words_after read (c ∷ text) ≡ words_after (read ++ (c ∷ [])) text
 unfolding words_after
 at_other read c text h = simp (ne_eqb c space h)
 
-space_skipped : (c : ℕ) (text : List ℕ) → c ≡ space → words (c ∷ text) ≡ words text
+pub space_skipped : (c : ℕ) (text : List ℕ) → c ≡ space → words (c ∷ text) ≡ words text
 unfolding words
 space_skipped c text h = at_space [] c text h
 

@@ -18,7 +18,7 @@ first_by true k e = refl
 first_by false k e = absurd (let z : ◌≡◌ {A = ℕ} 0 1 = cc in omega arith)
 
 -- no byte of a text is this one
-index_none : (byte : ℕ) (text : List ℕ) → ((k : ℕ) → k < length text → (get_or text k 0 == byte) ≡ true → ⊥) → index_of byte text ≡ length text
+pub index_none : (byte : ℕ) (text : List ℕ) → ((k : ℕ) → k < length text → (get_or text k 0 == byte) ≡ true → ⊥) → index_of byte text ≡ length text
 unfolding index_of
 index_none byte [] h = refl
 index_none byte (c ∷ text) h =
@@ -38,12 +38,12 @@ unfolding index_after
 within_by true k n h = omega arith
 within_by false k n h = omega (arith, h)
 
-index_within : (byte : ℕ) (text : List ℕ) → index_of byte text ≤ length text
+pub index_within : (byte : ℕ) (text : List ℕ) → index_of byte text ≤ length text
 unfolding index_of
 index_within byte [] = omega arith
 index_within byte (c ∷ text) = within_by (c == byte) (index_of byte text) (length text) (index_within byte text)
 
-part_size : (start end : ℕ) (text : List ℕ) → end ≤ length text → length (slice start end text) ≡ end - start
+pub part_size : (start end : ℕ) (text : List ℕ) → end ≤ length text → length (slice start end text) ≡ end - start
 unfolding slice
 part_size start end text h = omega (arith, length-drop start (take end text), length-take-le end text h)
 
@@ -88,17 +88,17 @@ module _ (byte start end : ℕ) (text : List ℕ) where
   unfolding found_in
   found_or_end = or_end_by (ltb (index_of byte part) (length part)) refl
 
-  some_is : index_of byte part < length part → Some (start + index_of byte part) ≡ found_in byte start end text
+  pub some_is : index_of byte part < length part → Some (start + index_of byte part) ≡ found_in byte start end text
   unfolding found_in
   some_is h = sym (simp (lt-ltb (index_of byte part) (length part) h))
 
-  none_is : index_of byte part ≡ length part → None ≡ found_in byte start end text
+  pub none_is : index_of byte part ≡ length part → None ≡ found_in byte start end text
   unfolding found_in
   none_is e = sym (simp (le-ltb (index_of byte part) (length part) (omega (arith, e))))
 
 -- a part ends with its text at the latest
 module _ (byte start end : ℕ) (text : List ℕ) (last : ℕ) (cut : last ≡ min end (length text)) where
-  ends_with_text : slice start end text ≡ drop start (take last text)
+  pub ends_with_text : slice start end text ≡ drop start (take last text)
   unfolding slice
   ends_with_text = by (dec_le end (length text))
     where
@@ -118,7 +118,7 @@ module _ (byte start end : ℕ) (text : List ℕ) (last : ℕ) (cut : last ≡ m
       none_is byte start end text (ap (index_of byte) none ∙ sym (ap length none))
 
   module _ (some : start ≤ last) where
-    counted : slice start end text ≡ take (last - start) (drop start text)
+    pub counted : slice start end text ≡ take (last - start) (drop start text)
     counted =
         let e : last ≡ start + (last - start) = omega arith in
         ends_with_text ∙ ap (λ (n : ℕ). drop start (take n text)) e ∙ drop-take start (last - start) text

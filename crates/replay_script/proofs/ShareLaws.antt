@@ -1,5 +1,5 @@
 -- Laws of a text answered line by line: each newline ends a line, and the answers lie end to end in the output buffer.
-use Rattle.std.specs.Prelude.{◌≡◌, ℕ, suc, ◌+◌, ◌-◌, ◌<◌, ◌≤◌, Bool, true, false, cond, leb, List, [], ◌∷◌, ◌++◌, length, take, drop, ◌==◌, nat_le, Option, None, Some, Ok, Err, refl}
+use Rattle.std.specs.Prelude.{◌≡◌, ℕ, suc, ◌+◌, ◌-◌, ◌<◌, ◌≤◌, Bool, true, false, cond, leb, List, [], ◌∷◌, ◌++◌, length, take, drop, ◌==◌, ◌≢◌, nat_le, Option, None, Some, Ok, Err, refl}
 use Rattle.std.specs.Result.{result_unwrap_or}
 use Rattle.std.proofs.Common.{sym, ◌∙◌, subst, append_assoc, append-nil, not-suc-le-zero, arith, length-append, length-take-le, take_at, drop_at, drop-drop}
 use Rattle.std.proofs.Math.Path.{ap}
@@ -10,8 +10,10 @@ use Rattle.frame.specs.Writing as writing
 use Rattle.frame.specs.FrameContracts.{Written, written_of}
 use Rattle.station.specs.declared.Station.{Station}
 use Rattle.port.specs.declared.Called.{Called}
-use Rattle.replay_desk.specs.LineAnswers.{LineAnswer, LineOutcome, answer_room, put, answer_rule}
+use Rattle.report.specs.declared.Refusal.{Refusal}
+use Rattle.replay_desk.specs.LineAnswers.{LineAnswer, LineOutcome, answer_room, put, answer_rule, command_rule}
 use Rattle.replay_desk.specs.DeskContracts.{answered_by, end_by, end_of}
+use Rattle.replay_line.specs.LineCalls.{line_rule}
 use Rattle.report.specs.ReportContracts.{number_of}
 use Rattle.replay_script.specs.declared.Progress.{Progress}
 use Rattle.text.specs.Words.{newline}
@@ -58,6 +60,10 @@ no_line st number read [] room h = ap (λ (l : List ℕ). share_none st number l
 no_line st number read (c ∷ t) room h =
     none_by st number read c t room (index_of newline t) (c == newline) h (no_line st number (read ++ (c ∷ [])) t room)
 
+-- an answer ends within the output
+pub line_end_law : {w : Written} {size : ℕ} (at room : ℕ) → w ≡ Ok size → end_by at w ≤ room → at + size ≤ room
+line_end_law at room e h = subst (λ (w : Written). end_by at w ≤ room) e h
+
 -- one answer: it has its room, so it is put
 module _ (run : Progress) (line b : List ℕ) (st : Station) (b₁ : List ℕ) where
   abbrev told : LineAnswer
@@ -85,6 +91,30 @@ adds run line b r size b₁ room is within size_is =
     subst (λ (n : ℕ). Adds run line b (record run { station = r.next; number = next_number run.number; filled = run.filled + n }) b₁) (sym size_is)
     (put_by run line b r.next b₁ r.answer (is ∙ (simp room)) within)
 
+-- and so it is not refused
+module _ (run : Progress) (line b : List ℕ) (number : ℕ) (r : Called Written Station) (b₁ : List ℕ) (room : writing.fits_at answer_room run.filled (length b) ≡ true) (next : number ≡ next_number run.number) (is : answered_by r b₁ ≡ answer_rule run.station number line run.filled b) where
+  is_put : answered_by r b₁ ≡ put (answer_to run.station run.number line) run.filled b
+  unfolding answer_rule
+  is_put =
+      is
+      ∙ (simp room)
+      ∙ ap (λ (n : ℕ). put (command_rule run.station n (line_rule line)) run.filled b) next
+
+  abbrev text : List ℕ
+  text = (answer_to run.station run.number line).text
+
+  pub refused_not : {w : Refusal} → r.answer ≢ Err w
+  refused_not {w} e =
+      let p : writing.refused (number_of w) ≡ writing.wrote (length text) = sym (ap written_of e) ∙ ap (λ (o : LineOutcome). o.answer) is_put in
+      let z : ◌≡◌ {A = ℕ} 0 1 = cc in
+      omega arith
+
+  pub adds_bytes : {size : ℕ} → r.answer ≡ Ok size → run.filled + size ≤ length b₁ → Adds run line b (record run { station = r.next; number = number; filled = run.filled + size }) b₁
+  adds_bytes {size} e h =
+      let of_bytes : record { answer = written_of (Ok size); station = r.next; lent = b₁ } ≡ put (answer_to run.station run.number line) run.filled b = sym (ap (λ (w : Written). record { answer = written_of w; station = r.next; lent = b₁ }) e) ∙ is_put in
+      subst (λ (n : ℕ). Adds run line b (record run { station = r.next; number = n; filled = run.filled + size }) b₁) (sym next)
+      (put_by run line b r.next b₁ (Ok size) of_bytes h)
+
 -- the lines of a text are answered up to an offset; what is left comes to what the rule gives
 pub record Answering (text out₀ : List ℕ) (run₀ : Progress) (out : List ℕ) (run : Progress) : Type 0 where
   pub within : run.used ≤ length text
@@ -95,9 +125,12 @@ pub record Answering (text out₀ : List ℕ) (run₀ : Progress) (out : List �
   pub so : before_share (take run.filled out) (share_rule run.station run.number (drop run.used text) (length out₀ - run.filled)) ≡ share_rule run₀.station run₀.number text (length out₀)
 
 -- the search goes up to the end of the text
-to_end : (text : List ℕ) (at : ℕ) → slice at (length text) text ≡ drop at text
+pub to_end : (text : List ℕ) (at : ℕ) → slice at (length text) text ≡ drop at text
 unfolding slice
 to_end text at = ap (drop at) (take-length text)
+
+pub sliced : (text : List ℕ) (at end : ℕ) → end ≡ at + index_of newline (slice at (length text) text) → end ≡ at + index_of newline (drop at text)
+sliced text at end e = e ∙ ap (λ (l : List ℕ). at + index_of newline l) (to_end text at)
 
 module _ {text out₀ : List ℕ} {run₀ : Progress} {out : List ℕ} {run : Progress} (k : Answering text out₀ run₀ out run) where
   abbrev left : List ℕ
@@ -123,6 +156,9 @@ module _ {text out₀ : List ℕ} {run₀ : Progress} {out : List ℕ} {run : Pr
       let index : length left ≤ index_of newline left = subst (λ (l : List ℕ). length l ≤ index_of newline l) (to_end text run.used) (not_found newline run.used (length text) text e) in
       ap (λ (t : Bool). record { text = take run.filled out; station = run.station; number = run.number; left = left; full = t }) k.full
       ∙ answered_so_far false (no_line run.station run.number [] left room index)
+
+  pub has_room : answer_room ≤ length out - run.filled → writing.fits_at answer_room run.filled (length out) ≡ true
+  has_room h = le-leb (run.filled + answer_room) (length out) (omega (arith, h, k.room))
 
   module _ {end : ℕ} (here : Some end ≡ next) where
     found_here : Found newline run.used (length text) text end
