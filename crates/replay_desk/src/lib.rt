@@ -4,13 +4,14 @@
 ghost use Rattle.std.specs.Prelude.{ℕ, List, ◌≡◌, ◌≤◌, length};
 ghost use Rattle.replay_line.specs.LineFields.{most_lent};
 ghost use Rattle.replay_line.specs.LineContracts.{writer_of, command_of, lent_room};
+ghost use Rattle.sequence.specs.Steps as steps;
 ghost use Rattle.replay_desk.specs.LineAnswers.{answer_room, keeping, stepped, writer_step, lent_buffer, command_rule, answer_rule};
 ghost use Rattle.replay_desk.specs.DeskContracts.{answered_by, end_of, HasRoom, Shows, PutsAnswer, written_by};
 ghost use Rattle.station.specs.StationContracts.{request_outcome};
 
 use port::Called;
 use replay_line::{Command, Parsed, Writer};
-use report::Refusal;
+use report::{Device, FeatureIndex, Refusal};
 use station::Station;
 use text::Out;
 
@@ -85,6 +86,36 @@ fn write(
     made.next
 }
 
+// Each of these makes a call and shows its answer. They stand apart from `respond`, which would else make room for what all four give at every line, also where it makes no call.
+fn take(out: &mut Out, station: Station, bytes: &[u8]) -> Station
+    requires room { HasRoom out.old }
+    ensures { Shows (stepped (steps.step station (steps.take bytes.now))) out.old result out.new }
+{
+    show(out, station.take(bytes), replay_taken::put_taken)
+}
+
+fn cancel(out: &mut Out, station: Station, port: Device, byte2: FeatureIndex, byte3: u8) -> Station
+    requires room { HasRoom out.old }
+    ensures { Shows (stepped (steps.step station (steps.cancel port.0 byte2.0 byte3))) out.old result out.new }
+{
+    let called = station.cancel(port, byte2, byte3);
+    show(out, called, replay_render::put_cancelled)
+}
+
+fn tick(out: &mut Out, station: Station) -> Station
+    requires room { HasRoom out.old }
+    ensures { Shows (stepped (steps.step station steps.tick)) out.old result out.new }
+{
+    show(out, station.tick(), replay_render::put_ended)
+}
+
+fn restore(out: &mut Out, station: Station, text: &[u8]) -> Station
+    requires room { HasRoom out.old }
+    ensures { Shows (stepped (steps.step station (steps.restore text.now))) out.old result out.new }
+{
+    show(out, station.restore(text), replay_render::put_restored)
+}
+
 // Does what a line asks for.
 fn respond(
     out: &mut Out,
@@ -103,13 +134,10 @@ fn respond(
             replay_render::put_no_call(out, number);
             station
         }
-        Command::Take => show(out, station.take(bytes), replay_taken::put_taken),
-        Command::Cancel { port, byte2, byte3 } => {
-            let called = station.cancel(port, byte2, byte3);
-            show(out, called, replay_render::put_cancelled)
-        }
-        Command::Tick => show(out, station.tick(), replay_render::put_ended),
-        Command::Restore => show(out, station.restore(bytes), replay_render::put_restored),
+        Command::Take => take(out, station, bytes),
+        Command::Cancel { port, byte2, byte3 } => cancel(out, station, port, byte2, byte3),
+        Command::Tick => tick(out, station),
+        Command::Restore => restore(out, station, bytes),
         Command::Read => {
             replay_render::put_reading(out, report::read(bytes));
             station
