@@ -85,12 +85,15 @@ impl Out<'_> {
         }
     }
 
-    // The bytes of a word, one by one: for a copy at once the archives for C would need a function from outside.
+    // The bytes of a word.
     pub fn word(&mut self, word: &[u8])
         ensures put { Outputs (length word.now) word.now self.old self.new }
     {
-        for byte in word {
-            self.byte(*byte);
+        if self.at < self.buffer.len() {
+            let size = word.len().min(self.buffer.len() - self.at);
+            let end = self.at + size;
+            self.buffer[self.at..end].copy_from_slice(&word[..size]);
+            self.at = end;
         }
     }
 
@@ -199,7 +202,7 @@ impl Out<'_> {
     }
 }
 
-// Puts a word at the front of a part of a buffer, and answers where it ends.
+// Puts a word at the front of a part of a buffer, and answers where it ends: byte by byte, since for a copy at once the archives for C would need a function from outside.
 fn put_front(part: &mut [u8], word: &[u8]) -> usize
     ensures { Puts (length word.now) word.now 0 part.old result part.new }
 {
@@ -207,7 +210,9 @@ fn put_front(part: &mut [u8], word: &[u8]) -> usize
         buffer: part,
         at: 0,
     };
-    out.word(word);
+    for byte in word {
+        out.byte(*byte);
+    }
     out.at
 }
 

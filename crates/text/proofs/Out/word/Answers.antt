@@ -1,14 +1,21 @@
--- `text::Out::word` meets its contract. The loop puts each byte.
+-- `text::Out::word` meets its contract: what fits of the word is copied.
 use mathlib.Core.Path.{refl}
-use Rattle.text.proofs.EachLaws.{letter, out_begun, out_each, out_word}
+use native.Mathlib.Nat.{le_refl}
+use Rattle.text.proofs.PuttingLaws.{word_copied, past_end}
 use Rattle.text.proofs.Out.word.Goals as goal
 
-pub loop-byte-init : goal.loop-byte-init
-loop-byte-init c = out_begun letter _ _ _ _
+pub returns-then-self : goal.returns-then-self
+returns-then-self c = record {
+  put = record {
+    puts = record {
+      put = word_copied _ _ _ _ _ c.min-size.ensures c.copy_from_slice.ensures.after;
+      short = le_refl _;
+    };
+    same = refl;
+  };
+}
 
-pub loop-byte-preserved : goal.loop-byte-preserved
-loop-byte-preserved c =
-    out_each c.loop-byte.invariant 0 c.loop-byte-test.true c.loop-byte-test.true refl c.byte.ensures.put
-
-pub returns : goal.returns
-returns c = record { put = out_word c.loop-byte.invariant c.loop-byte-test.false }
+pub returns-else-self : goal.returns-else-self
+returns-else-self c = record {
+  put = record { puts = record { put = past_end _ _ _ c.if-self.false; short = le_refl _ }; same = refl };
+}
